@@ -1,0 +1,32 @@
+// Fields of 32-bit words by masks and shifts, said in plain arithmetic. All are total: 32 bits or more are the whole word.
+ghost use mathlib.Core.Path.{_≡_};
+ghost use Prim.Native.Nat.{_/_, _%_, _^_, _<_};
+ghost use Rattle.bits.specs.Bits.{withLow};
+
+// The k low bits of x.
+pub fn low_bits(x: u32, k: u32) -> u32
+    ensures { λ r. ⌜ (r ≡ x % 2 ^ k) × (r < 2 ^ k) ⌝ }
+{
+    if 31 < k {
+        return x;
+    }
+    x & ((1u32 << k) - 1)
+}
+
+// x with its k low bits taken from y.
+pub fn with_low(x: u32, y: u32, k: u32) -> u32
+    ensures { λ r. ⌜ r ≡ withLow k x y ⌝ }
+{
+    if 31 < k {
+        return y;
+    }
+    let high = (x >> k) << k;
+    high | low_bits(y, k)
+}
+
+// x without its k low bits, moved down.
+pub fn shr32(x: u32, k: u8) -> u32
+    ensures { λ r. ⌜ r ≡ x / 2 ^ k ⌝ }
+{
+    if k < 32 { x >> k } else { 0 }
+}

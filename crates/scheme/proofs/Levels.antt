@@ -1,0 +1,51 @@
+-- The levels of a valid scheme: their widths, shifts and sizes stay within a word.
+use Prim.Native.Nat.{ℕ, _*_, _^_, _%_, _≤_, _<_}
+use native.Mathlib.Nat.{mod-eq-of-lt}
+use native.Mathlib.Omega.{arith}
+use mathlib.Core.Path.{_≡_, sym}
+use mathlib.Core.Bool.{true}
+use lib.ListN.{length, getD}
+use lib.Seq.{getD-take, length-take-le}
+use lib.Pow.{pow-mono}
+use borrow.Author.Tests.{ltb-true}
+use Rattle.bits.proofs.Masks.{one-shl}
+use Rattle.scheme.specs.declared.PagingScheme.{PagingScheme}
+use Rattle.scheme.specs.Scheme.{widthsOf, validOf, knownLevel, shiftOf}
+use Rattle.scheme.proofs.Widths.{Valid, valid, and-left, and-right, ok-at, total-at}
+
+-- a level of a valid scheme
+module _ (s : PagingScheme) (four : length (s .«level_bits») ≡ 4) (v : Valid s) (level : ℕ) (h : level < s .levels) where
+  own : (1 ≤ getD (widthsOf s) level 0) × (getD (widthsOf s) level 0 ≤ 12)
+  own =
+      let long : s .levels ≤ length (s .«level_bits») = omega (arith, v .four) in
+      ok-at (widthsOf s) level (v .ok) (rw (length-take-le (s .levels) (s .«level_bits») long) h)
+
+  -- the code reads the array
+  pub width-at : getD (widthsOf s) level 0 ≡ getD (s .«level_bits») level 0
+  width-at = getD-take (s .levels) (s .«level_bits») level 0 h
+
+  pub width-high : getD (s .«level_bits») level 0 ≤ 12
+  width-high = rw width-at at (own .1)
+
+  pub shift-high : shiftOf (s .«offset_bits») (widthsOf s) level < 32
+  unfolding shiftOf
+  shift-high = omega (arith, own .0, total-at (widthsOf s) level, v .all-32)
+
+  -- `1 << width`
+  pub one-width : 1 * 2 ^ getD (s .«level_bits») level 0 % 2 ^ 32 ≡ 2 ^ getD (widthsOf s) level 0
+  one-width = rw width-at (one-shl _ (omega (arith, width-high)))
+
+  -- `4 << width`: the bytes of a level's table, at most four frames
+  pub table-high : 4 * 2 ^ getD (widthsOf s) level 0 ≤ 16384
+  table-high = omega (arith, pow-mono (own .1))
+
+  pub table-bytes : 4 * 2 ^ getD (s .«level_bits») level 0 % 2 ^ 32 ≡ 4 * 2 ^ getD (widthsOf s) level 0
+  table-bytes = rw (sym width-at) (mod-eq-of-lt (omega (arith, table-high)))
+
+-- a level that is known
+module _ (s : PagingScheme) (level : ℕ) (e : knownLevel s level ≡ true) where
+  pub known-valid : Valid s
+  known-valid = valid s (and-left _ _ e)
+
+  pub known-below : level < s .levels
+  known-below = ltb-true level (s .levels) (and-right (validOf s) _ e)

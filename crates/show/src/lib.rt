@@ -1,0 +1,32 @@
+// What the test programs print with: words of text, numbers and line ends on standard output.
+pub fn text(s: &[u8]) {
+    io::write_all(1, s);
+}
+
+// A space, and eight hexadecimal digits.
+pub fn hex(n: u32) {
+    text(b" ");
+    io::print_hex(1, n as u64, 8);
+}
+
+// A space, and a decimal.
+pub fn num(n: u32) {
+    text(b" ");
+    io::print_decimal(1, n as u64);
+}
+
+pub fn small(n: u8) {
+    num(n as u32);
+}
+
+pub fn flag(b: bool) {
+    if b {
+        text(b" yes");
+    } else {
+        text(b" no");
+    }
+}
+
+pub fn end() {
+    text(b"\n");
+}

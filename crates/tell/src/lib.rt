@@ -1,0 +1,105 @@
+// What the test programs print of walks: who asks, where the descent and the judgement end, and the answer.
+use memory::Word;
+use scheme::AccessType;
+use scheme::PagingScheme;
+use scheme::PrivMode;
+use walk::Access;
+use walk::Verdict;
+use walk::Walked;
+use walker::Found;
+use walker::Reason;
+
+pub fn put(ram: &mut [u8], at: u32, word: u32) {
+    memory::store32(ram, at, word);
+}
+
+// A scheme of up to four widths.
+pub fn scheme_of(offset_bits: u8, levels: u8, a: u8, b: u8, c: u8, d: u8) -> PagingScheme {
+    PagingScheme {
+        offset_bits,
+        level_bits: [a, b, c, d],
+        levels,
+    }
+}
+
+pub fn kind_name(kind: AccessType) {
+    match kind {
+        AccessType::Fetch => show::text(b" fetch"),
+        AccessType::Load => show::text(b" load"),
+        AccessType::Store => show::text(b" store"),
+    }
+}
+
+pub fn mode_name(mode: PrivMode) {
+    match mode {
+        PrivMode::U => show::text(b" U"),
+        PrivMode::S => show::text(b" S"),
+        PrivMode::M => show::text(b" M"),
+    }
+}
+
+fn reason_name(why: Reason) {
+    match why {
+        Reason::Unreadable => show::text(b" not readable"),
+        Reason::Invalid => show::text(b" not valid"),
+        Reason::WriteOnly => show::text(b" W without R"),
+        Reason::Misaligned => show::text(b" misaligned"),
+        Reason::OutOfLevels => show::text(b" out of levels"),
+        Reason::NoRight => show::text(b" no right"),
+        Reason::Privilege => show::text(b" privilege"),
+    }
+}
+
+// The reason of a fault and its level, by the descent and the judgement alone.
+fn verdict(ram: &[u8], s: PagingScheme, root: u32, access: Access) {
+    let Found::At(d) = walker::find(ram, root, s, access.vaddr) else {
+        return;
+    };
+    match walk::judge(d, access) {
+        Verdict::Page(_) => (),
+        Verdict::Fault(why, level) => {
+            reason_name(why);
+            show::text(b" at");
+            show::small(level);
+        }
+    }
+}
+
+fn told(answer: Walked) {
+    match answer {
+        Walked::Ok(r) => {
+            show::text(b" ok");
+            show::hex(r.paddr);
+            show::num(r.page_bits);
+            show::small(r.leaf_level);
+        }
+        Walked::Err(f) => {
+            show::text(b" fault");
+            show::num(f.cause);
+        }
+        Walked::Refused(r) => {
+            show::text(b" refused");
+            show::num(r.number());
+        }
+    }
+}
+
+// One walk: who asks, the answer, the words asked for, the word at `leaf` afterwards, and the reason of a fault.
+pub fn walked(ram: &mut [u8], s: PagingScheme, root: u32, access: Access, leaf: u32) {
+    let kind = access.kind;
+    let mode = access.mode;
+    show::hex(access.vaddr);
+    kind_name(kind);
+    mode_name(mode);
+    let w = walk::walk(s, root, ram, access);
+    let answer = w.answer;
+    told(answer);
+    show::text(b" words");
+    show::num(w.words);
+    match memory::load32(ram, leaf) {
+        Word::Is(x) => show::hex(x),
+        Word::Unreadable => show::text(b" -"),
+    }
+    verdict(ram, s, root, access);
+    show::end();
+}

@@ -1,0 +1,81 @@
+-- What a walk answers and what it leaves in RAM, read off its verdict.
+use Prim.Native.Nat.{ℕ, _+_}
+use mathlib.Core.List.{List}
+use mathlib.Core.Bool.{cond}
+use lib.Dec.{eqb}
+use Rattle.bits.specs.Bits.{withBit, withLow}
+use Rattle.pte.specs.Entry.{permsOf, globalBit, ppnOf, aPlace, dPlace}
+use Rattle.memory.specs.Word.{putAt}
+use Rattle.scheme.specs.Access.{causeOf}
+use Rattle.scheme.specs.Scheme.{validOf}
+use Rattle.scheme.specs.declared.access.AccessType.{AccessType}
+use Rattle.scheme.specs.declared.access.AccessType.the-variants.{Fetch, Load, Store}
+use Rattle.scheme.specs.declared.PagingScheme.{PagingScheme}
+use Rattle.scheme.specs.declared.refusal.Refusal.the-variants.{BadScheme}
+use Rattle.walker.specs.Descent.{Format, sv32, frame}
+use Rattle.walk.specs.Verdict.{walkOf}
+use Rattle.walk.specs.declared.Access.{Access}
+use Rattle.walk.specs.declared.LeafAt.{LeafAt}
+use Rattle.walk.specs.declared.Verdict.{Verdict}
+use Rattle.walk.specs.declared.Verdict.the-variants.{Page, Fault}
+use Rattle.walk.specs.declared.WalkResult.{WalkResult}
+use Rattle.walk.specs.declared.Walked.the-variants.{Ok, Err, Refused}
+use Rattle.walk.specs.declared.WalkAnswer.{WalkAnswer}
+
+-- ---- the marks
+
+-- "An accepted leaf gets bit 6, and for a store bit 7"
+abbrev pub markOf : AccessType → ℕ → ℕ
+markOf Fetch w = withBit aPlace w
+markOf Load w = withBit aPlace w
+markOf Store w = withBit dPlace (withBit aPlace w)
+
+-- RAM with the word w at a marked, "written only if one was missing"
+unfoldable pub markIn : Format → AccessType → List ℕ → ℕ → ℕ → List ℕ
+markIn f kind ram a w = cond (eqb (markOf kind w) w) ram (putAt (f .bytes) ram a (markOf kind w))
+
+-- what a walk leaves in RAM
+abbrev pub markedBy : Format → AccessType → List ℕ → Verdict → List ℕ
+markedBy f kind ram (Page l) = markIn f kind ram (l .at) (l .raw)
+markedBy f kind ram (Fault why level) = ram
+
+-- ---- the answer
+
+-- "The address is the frame, PPN times 4096 kept to 32 bits, with the low (shift) bits taken from the virtual address";
+-- 32 bits or more are the whole of it
+abbrev pub physicalOf : ℕ → ℕ → ℕ → ℕ
+physicalOf ppn shift va = withLow shift (frame sv32 ppn) va
+
+abbrev pub resultOf : ℕ → LeafAt → WalkResult
+resultOf va l =
+    record {
+      paddr = physicalOf (ppnOf (l .raw)) (l .shift) va;
+      ppn = ppnOf (l .raw);
+      «page_bits» = l .shift;
+      perms = permsOf (l .raw);
+      global = globalBit (l .raw);
+      «leaf_level» = l .level;
+    }
+
+-- "the answer tells how many words were asked for, an unreadable one included": one at each level down to where the walk ends
+abbrev pub wordsOf : Verdict → ℕ
+wordsOf (Page l) = l .level + 1
+wordsOf (Fault why level) = level + 1
+
+-- "Causes: fetch 12, load 13, store 15, with the virtual address"
+abbrev pub answerOf : Access → Verdict → WalkAnswer
+answerOf q (Page l) = record { words = wordsOf (Page l); answer = Ok (resultOf (q .vaddr) l) }
+answerOf q (Fault why level) =
+    record {
+      words = wordsOf (Fault why level);
+      answer = Err (record { cause = causeOf (q .kind); vaddr = q .vaddr });
+    }
+
+-- ---- the published walk: refusal 1 "exactly when the scheme is not valid", with no word asked for and RAM as it was
+
+unfoldable pub walkAnswer : PagingScheme → ℕ → List ℕ → Access → WalkAnswer
+walkAnswer s root ram q =
+    cond (validOf s) (answerOf q (walkOf s root ram q)) (record { words = 0; answer = Refused BadScheme })
+
+unfoldable pub walkRam : PagingScheme → ℕ → List ℕ → Access → List ℕ
+walkRam s root ram q = cond (validOf s) (markedBy sv32 (q .kind) ram (walkOf s root ram q)) ram

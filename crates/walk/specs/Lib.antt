@@ -1,0 +1,3 @@
+pub mod Rights
+pub mod Verdict
+pub mod Answer

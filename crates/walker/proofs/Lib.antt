@@ -1,0 +1,3 @@
+pub mod Cases
+pub mod Down
+pub mod Ends

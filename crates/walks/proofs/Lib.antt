@@ -1,0 +1,5 @@
+pub mod Steady
+pub mod Marks
+pub mod Verdicts
+pub mod Blocks
+pub mod Claims
