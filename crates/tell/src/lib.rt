@@ -4,6 +4,7 @@ use scheme::AccessType;
 use scheme::PagingScheme;
 use scheme::PrivMode;
 use walk::Access;
+use walk::Reply;
 use walk::Verdict;
 use walk::Walked;
 use walker::Found;
@@ -77,7 +78,18 @@ fn told(answer: Walked) {
             show::text(b" fault");
             show::num(f.cause);
         }
-        Walked::Refused(r) => {
+    }
+}
+
+fn replied(reply: Reply) {
+    match reply {
+        Reply::Done(w) => {
+            let answer = w.answer;
+            told(answer);
+            show::text(b" words");
+            show::num(w.words);
+        }
+        Reply::Refused(r) => {
             show::text(b" refused");
             show::num(r.number());
         }
@@ -91,11 +103,7 @@ pub fn walked(ram: &mut [u8], s: PagingScheme, root: u32, access: Access, leaf: 
     show::hex(access.vaddr);
     kind_name(kind);
     mode_name(mode);
-    let w = walk::walk(s, root, ram, access);
-    let answer = w.answer;
-    told(answer);
-    show::text(b" words");
-    show::num(w.words);
+    replied(walk::walk(s, root, ram, access));
     match memory::load32(ram, leaf) {
         Word::Is(x) => show::hex(x),
         Word::Unreadable => show::text(b" -"),

@@ -19,8 +19,10 @@ use Rattle.walk.specs.declared.LeafAt.{LeafAt}
 use Rattle.walk.specs.declared.Verdict.{Verdict}
 use Rattle.walk.specs.declared.Verdict.the-variants.{Page, Fault}
 use Rattle.walk.specs.declared.WalkResult.{WalkResult}
-use Rattle.walk.specs.declared.Walked.the-variants.{Ok, Err, Refused}
+use Rattle.walk.specs.declared.Walked.the-variants.{Ok, Err}
 use Rattle.walk.specs.declared.WalkAnswer.{WalkAnswer}
+use Rattle.walk.specs.declared.Reply.{Reply}
+use Rattle.walk.specs.declared.Reply.the-variants.{Done, Refused}
 
 -- ---- the marks
 
@@ -71,11 +73,10 @@ answerOf q (Fault why level) =
       answer = Err (record { cause = causeOf (q .kind); vaddr = q .vaddr });
     }
 
--- ---- the published walk: refusal 1 "exactly when the scheme is not valid", with no word asked for and RAM as it was
+-- ---- the published walk: refusal 1 "exactly when the scheme is not valid", with RAM as it was
 
-unfoldable pub walkAnswer : PagingScheme → ℕ → List ℕ → Access → WalkAnswer
-walkAnswer s root ram q =
-    cond (validOf s) (answerOf q (walkOf s root ram q)) (record { words = 0; answer = Refused BadScheme })
+unfoldable pub walkReply : PagingScheme → ℕ → List ℕ → Access → Reply
+walkReply s root ram q = cond (validOf s) (Done (answerOf q (walkOf s root ram q))) (Refused BadScheme)
 
 unfoldable pub walkRam : PagingScheme → ℕ → List ℕ → Access → List ℕ
 walkRam s root ram q = cond (validOf s) (markedBy sv32 (q .kind) ram (walkOf s root ram q)) ram

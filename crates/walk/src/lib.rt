@@ -15,7 +15,7 @@ ghost use Rattle.scheme.specs.Scheme.{validOf};
 ghost use Rattle.walker.specs.Descent.{sv32};
 ghost use Rattle.walk.specs.Rights.{allows, openTo};
 ghost use Rattle.walk.specs.Verdict.{leafJudged, judgeOf, walkOf};
-ghost use Rattle.walk.specs.Answer.{markOf, markIn, markedBy, physicalOf, resultOf, answerOf, walkAnswer, walkRam};
+ghost use Rattle.walk.specs.Answer.{markOf, markIn, markedBy, physicalOf, resultOf, answerOf, walkReply, walkRam};
 
 // Who asks: the address, the kind of access and the privilege that goes with it.
 pub struct Access {
@@ -56,13 +56,18 @@ pub struct PageFault {
 pub enum Walked {
     Ok(WalkResult),
     Err(PageFault),
-    Refused(Refusal),
 }
 
 // A walk's answer, and how many words it asked for.
 pub struct WalkAnswer {
     pub words: u32,
     pub answer: Walked,
+}
+
+// What a walk on any scheme comes to. A refusal asks for no word.
+pub enum Reply {
+    Done(WalkAnswer),
+    Refused(Refusal),
 }
 
 // Whether the entry has the right that the access needs.
@@ -195,15 +200,12 @@ pub fn walk_valid(scheme: PagingScheme, root: u32, ram: &mut [u8], access: Acces
     }
 }
 
-// The walk on any scheme: refusal 1 where it is not valid, with no word asked for and RAM as it was.
-pub fn walk(scheme: PagingScheme, root: u32, ram: &mut [u8], access: Access) -> WalkAnswer
-    ensures { λ r. ⌜ (r ≡ walkAnswer scheme root (now (ram .entry)) access) × (now (ram .exit) ≡ walkRam scheme root (now (ram .entry)) access) ⌝ }
+// The walk on any scheme: refusal 1 where it is not valid, with RAM as it was.
+pub fn walk(scheme: PagingScheme, root: u32, ram: &mut [u8], access: Access) -> Reply
+    ensures { λ r. ⌜ (r ≡ walkReply scheme root (now (ram .entry)) access) × (now (ram .exit) ≡ walkRam scheme root (now (ram .entry)) access) ⌝ }
 {
     if scheme.is_valid() {
-        return walk_valid(scheme, root, ram, access);
+        return Reply::Done(walk_valid(scheme, root, ram, access));
     }
-    WalkAnswer {
-        words: 0,
-        answer: Walked::Refused(Refusal::BadScheme),
-    }
+    Reply::Refused(Refusal::BadScheme)
 }

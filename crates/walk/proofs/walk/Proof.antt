@@ -1,6 +1,8 @@
 -- `walk`: the test is what `walk_valid` requires; each side is one of the definitions' two cases.
+use mathlib.Core.Path.{ap}
 use Rattle.walker.proofs.Cases.{said}
-use Rattle.walk.specs.Answer.{walkAnswer, walkRam}
+use Rattle.walk.specs.declared.Reply.the-variants.{Done}
+use Rattle.walk.specs.Answer.{walkReply, walkRam}
 use borrow.Author.Needs.{needs}
 use Rattle.walk.proofs.walk.Statement.{statement}
 use Rattle.walk.proofs.walk.Tie as tie
@@ -15,14 +17,14 @@ same-length : tie.Need-same-length
 same-length c = search needs
 
 returns : tie.Need-returns
-unfolding walkAnswer walkRam
+unfolding walkReply walkRam
 returns c =
     let w = c .before .before in
     let e = said (w .before .before .before .is-valid .ensures) (w .before .before .if1 .taken) in
-    (rw e (w .walk-valid .ensures .0), rw e (w .walk-valid .ensures .1))
+    (rw e (ap Done (w .walk-valid .ensures .0)), rw e (w .walk-valid .ensures .1))
 
 returns-2 : tie.Need-returns-2
-unfolding walkAnswer walkRam
+unfolding walkReply walkRam
 returns-2 c =
     let e = said (c .before .is-valid .ensures) (c .if1 .left) in
     (rw e, rw e)
