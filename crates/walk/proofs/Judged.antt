@@ -1,7 +1,7 @@
 -- Which case of the judgement holds, and that a page it lets through was read where it says.
 use Prim.Native.Nat.{ℕ}
 use native.Mathlib.Omega.{arith}
-use mathlib.Core.Path.{_≡_, ap, subst}
+use mathlib.Core.Path.{_≡_, ap, subst, sym}
 use mathlib.Core.List.{List}
 use mathlib.Core.Bool.{Bool, true, false, not}
 use Rattle.pte.specs.Entry.{permsOf}
@@ -57,6 +57,19 @@ module _ (q : Access) where
       let q : Page (record { raw = w; at = a; shift = shift; level = level }) ≡ Page l = passed _ _ _ _ l (passed _ _ _ _ l h) in
       let k : record { raw = w; at = a; shift = shift; level = level } ≡ l = cc in
       ap (λ (x : LeafAt). End.Page (x .raw) (x .at)) k
+
+  -- and has the descent's shift
+  shift-of : (shift level : ℕ) (e : End) (l : LeafAt) → endJudged q shift level e ≡ Page l → l .shift ≡ shift
+  unfolding leafJudged
+  shift-of shift level (End.Stop why) l h = let z : _≡_ {A = ℕ} 0 1 = cc in absurd (omega arith)
+  shift-of shift level (End.Page w a) l h =
+      let p : Page (record { raw = w; at = a; shift = shift; level = level }) ≡ Page l = passed _ _ _ _ l (passed _ _ _ _ l h) in
+      let k : record { raw = w; at = a; shift = shift; level = level } ≡ l = cc in
+      ap (λ (x : LeafAt). x .shift) (sym k)
+
+  pub end-shift : (d : Descent) (l : LeafAt) → judgeOf q d ≡ Page l → l .shift ≡ d .shift
+  unfolding judgeOf
+  end-shift d l h = shift-of (d .shift) (d .level) (d .end) l h
 
   -- an accepted leaf was readable, and is the word in RAM
   pub leaf-read : (s : PagingScheme) (root : ℕ) (ram : List ℕ) (l : LeafAt) → walkOf s root ram q ≡ Page l → Read sv32 ram (l .raw) (l .at)

@@ -1,0 +1,2 @@
+pub mod PowUp
+pub mod Laws

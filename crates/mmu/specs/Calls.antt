@@ -1,0 +1,58 @@
+-- The published calls: what each answers, and the state and RAM it leaves, for every state. "Order: every call on a state tests 3 first,
+-- then `set_scheme` tests 1 and `reconfigure` 2." "A refusal returns its number, the state it was handed (the default one from a refused
+-- `new`), and RAM as it was."
+use Prim.Native.Nat.{ℕ}
+use mathlib.Core.Bool.{Bool, cond}
+use mathlib.Core.List.{List}
+use lib.Dec.{leb}
+use Rattle.scheme.specs.Scheme.{validOf}
+use Rattle.scheme.specs.declared.PagingScheme.{PagingScheme}
+use Rattle.scheme.specs.declared.refusal.Refusal.{Refusal}
+use Rattle.scheme.specs.declared.refusal.Refusal.the-variants.{BadScheme, TooManyEntries, Unfit}
+use Rattle.scheme.specs.declared.refusal.Said.the-variants as Said
+use Rattle.walk.specs.declared.Access.{Access}
+use Rattle.entry.specs.Geometry.{entriesFor, defaultConfig}
+use Rattle.entry.specs.declared.TlbConfig.{TlbConfig}
+use Rattle.tlb.specs.State.{tlbFlush, tlbFlushVaddr, tlbReconfigure}
+use Rattle.state.specs.State.{withTlb, stateNew, withScheme, fitOf}
+use Rattle.access.specs.Translate.{servedOf, servedRam}
+use Rattle.state.specs.declared.Mmu.{Mmu}
+use Rattle.access.specs.declared.Outcome.the-variants as Outcome
+use Rattle.mmu.specs.declared.Kept.{Kept}
+use Rattle.access.specs.declared.Served.{Served}
+
+abbrev pub granted : Mmu → Kept
+granted m = record { said = Said.Granted; mmu = m }
+
+abbrev pub refused : Refusal → Mmu → Kept
+refused r m = record { said = Said.Refused r; mmu = m }
+
+-- not "the TLB would have more than 128 entries"
+abbrev pub roomFor : TlbConfig → Bool
+roomFor c = leb (entriesFor (c .«entry_count») (c .associativity)) 128
+
+unfoldable pub newOf : TlbConfig → Kept
+newOf c = cond (roomFor c) (granted (stateNew c)) (refused TooManyEntries (stateNew defaultConfig))
+
+-- 3 on a state that is not fit, and else what comes next
+abbrev pub ifFit : Mmu → Kept → Kept
+ifFit m next = cond (fitOf m) next (refused Unfit m)
+
+unfoldable pub setSchemeOf : Mmu → PagingScheme → Kept
+setSchemeOf m s = ifFit m (cond (validOf s) (granted (withScheme m s)) (refused BadScheme m))
+
+unfoldable pub reconfigureOf : Mmu → TlbConfig → Kept
+reconfigureOf m c = ifFit m (cond (roomFor c) (granted (withTlb m (tlbReconfigure (m .tlb) c))) (refused TooManyEntries m))
+
+unfoldable pub flushOf : Mmu → Kept
+flushOf m = ifFit m (granted (withTlb m (tlbFlush (m .tlb))))
+
+unfoldable pub flushVaddrOf : Mmu → ℕ → Kept
+flushVaddrOf m va = ifFit m (granted (withTlb m (tlbFlushVaddr (m .tlb) va)))
+
+unfoldable pub translateOf : Mmu → Access → List ℕ → Served
+translateOf m q ram =
+    cond (fitOf m) (servedOf m q ram) (record { said = record { words = 0; outcome = Outcome.Refused Unfit }; mmu = m })
+
+unfoldable pub translateRam : Mmu → Access → List ℕ → List ℕ
+translateRam m q ram = cond (fitOf m) (servedRam m q ram) ram

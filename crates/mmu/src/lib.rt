@@ -1,0 +1,169 @@
+// The MMU's published calls. Each tests that the state is fit, and refuses or goes on to the core.
+use access::Answer;
+use access::Outcome;
+use access::Served;
+use entry::TlbConfig;
+use scheme::PagingScheme;
+use scheme::Refusal;
+use scheme::Said;
+use scheme::Satp;
+use state::Mmu;
+use walk::Access;
+ghost use mathlib.Core.Path.{_≡_};
+ghost use mathlib.Core.Bool.{true};
+ghost use Rattle.state.specs.State.{stateNew};
+ghost use Rattle.mmu.specs.Calls.{newOf, setSchemeOf, reconfigureOf, flushOf, flushVaddrOf, translateOf, translateRam, roomFor};
+
+// A call that changes the state: whether it was granted, and the state.
+pub struct Kept {
+    pub said: Said,
+    pub mmu: Mmu,
+}
+
+// Whether a configuration's entries fit the array.
+fn has_room(c: TlbConfig) -> bool
+    ensures { λ r. ⌜ r ≡ roomFor c ⌝ }
+{
+    entry::entries_for(c.entry_count, c.associativity) <= 128
+}
+
+fn made_new(config: TlbConfig) -> Mmu
+    requires { ⌜ roomFor config ≡ true ⌝ }
+    ensures { λ r. ⌜ r ≡ stateNew config ⌝ }
+{
+    Mmu {
+        tlb: tlb::new(config),
+        scheme: PagingScheme::sv32(),
+        satp: Satp::new(0),
+        enabled: false,
+        force_translate: false,
+        tlb_enabled: true,
+    }
+}
+
+// An MMU with an empty TLB, or refusal 2 and the default one.
+pub fn new(config: TlbConfig) -> Kept
+    ensures { λ r. ⌜ r ≡ newOf config ⌝ }
+{
+    if has_room(config) {
+        return Kept {
+            said: Said::Granted,
+            mmu: made_new(config),
+        };
+    }
+    Kept {
+        said: Said::Refused(Refusal::TooManyEntries),
+        mmu: made_new(entry::default_config()),
+    }
+}
+
+// Adopts a paging scheme; entries stay. Refusals 3, then 1.
+pub fn set_scheme(m: Mmu, s: PagingScheme) -> Kept
+    ensures { λ r. ⌜ r ≡ setSchemeOf m s ⌝ }
+{
+    if !state::fits(m) {
+        return Kept {
+            said: Said::Refused(Refusal::Unfit),
+            mmu: m,
+        };
+    }
+    if !s.is_valid() {
+        return Kept {
+            said: Said::Refused(Refusal::BadScheme),
+            mmu: m,
+        };
+    }
+    let c = s.leaf_masks();
+    let masks = c.masks;
+    let t = m.tlb;
+    let u = tlb::set_scheme(t, s.offset_bits, masks, s.levels as usize);
+    let mut n = m;
+    n.tlb = u;
+    n.scheme = s;
+    Kept {
+        said: Said::Granted,
+        mmu: n,
+    }
+}
+
+// Starts the TLB afresh with another configuration; the rest stays. Refusals 3, then 2.
+pub fn reconfigure(m: Mmu, config: TlbConfig) -> Kept
+    ensures { λ r. ⌜ r ≡ reconfigureOf m config ⌝ }
+{
+    if !state::fits(m) {
+        return Kept {
+            said: Said::Refused(Refusal::Unfit),
+            mmu: m,
+        };
+    }
+    if !has_room(config) {
+        return Kept {
+            said: Said::Refused(Refusal::TooManyEntries),
+            mmu: m,
+        };
+    }
+    let t = m.tlb;
+    let u = tlb::reconfigure(t, config);
+    let mut n = m;
+    n.tlb = u;
+    Kept {
+        said: Said::Granted,
+        mmu: n,
+    }
+}
+
+// Clears every entry's valid mark. Refusal 3.
+pub fn flush(m: Mmu) -> Kept
+    ensures { λ r. ⌜ r ≡ flushOf m ⌝ }
+{
+    if !state::fits(m) {
+        return Kept {
+            said: Said::Refused(Refusal::Unfit),
+            mmu: m,
+        };
+    }
+    let t = m.tlb;
+    let u = tlb::flush(t);
+    let mut n = m;
+    n.tlb = u;
+    Kept {
+        said: Said::Granted,
+        mmu: n,
+    }
+}
+
+// Clears the valid marks of the entries that answer for an address, in any address space. Refusal 3.
+pub fn flush_vaddr(m: Mmu, vaddr: u32) -> Kept
+    ensures { λ r. ⌜ r ≡ flushVaddrOf m vaddr ⌝ }
+{
+    if !state::fits(m) {
+        return Kept {
+            said: Said::Refused(Refusal::Unfit),
+            mmu: m,
+        };
+    }
+    let t = m.tlb;
+    let u = tlb::flush_vaddr(t, vaddr);
+    let mut n = m;
+    n.tlb = u;
+    Kept {
+        said: Said::Granted,
+        mmu: n,
+    }
+}
+
+// Translates an access: the address and the stall, or the page fault. Refusal 3.
+pub fn translate(m: Mmu, q: Access, ram: &mut [u8]) -> Served
+    ensures { λ r. ⌜ (r ≡ translateOf m q (now (ram .entry))) × (now (ram .exit) ≡ translateRam m q (now (ram .entry))) ⌝ }
+{
+    if !state::fits(m) {
+        return Served {
+            said: Answer {
+                words: 0,
+                outcome: Outcome::Refused(Refusal::Unfit),
+            },
+            mmu: m,
+        };
+    }
+    access::serve(m, q, ram)
+}

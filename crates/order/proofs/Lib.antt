@@ -1,0 +1,11 @@
+pub mod Marks
+pub mod Pages
+pub mod Machine
+pub mod Truth
+pub mod Serves
+pub mod Fit
+pub mod Steps
+pub mod Order
+pub mod EndBytes
+pub mod Tallies
+pub mod Claims

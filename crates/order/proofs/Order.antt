@@ -1,0 +1,125 @@
+-- Demand 3: along a run each access gets its plain answer and makes its marks; and the marks of a list do not depend on its order.
+use Prim.Native.Nat.{ℕ}
+use mathlib.Core.Path.{_≡_, refl, sym, ap, ap₂, subst, _∙_}
+use mathlib.Core.Bool.{Bool, true, false, cond}
+use mathlib.Core.HLevel.{hedberg}
+use mathlib.Core.Logic.{∥∥₁-elim}
+use mathlib.Core.List.{List, [], _∷_, map, Perm, List·Permᴰ, List·Permᴰ·nil, List·Permᴰ·cons, List·Permᴰ·swap, List·Permᴰ·trans, Perm·rfl, List·isSet}
+use native.Mathlib.Decide.{ℕ-discrete}
+use Rattle.walk.specs.declared.Access.{Access}
+use Rattle.walks.specs.Plain.{Bytes}
+use Rattle.entry.specs.declared.TlbConfig.{TlbConfig}
+use Rattle.state.specs.State.{fitOf}
+use Rattle.mmu.specs.Calls.{roomFor, translateOf, translateRam}
+use Rattle.state.specs.declared.Mmu.{Mmu}
+use Rattle.order.specs.Runs.{Settings, settingsOf, startOf, Event, Do, FlushAll, FlushAt, accesses, stateAfter, ramAfter, endRam, heardOf, answers}
+use Rattle.order.specs.Plain.{passes, plainWalk, plainAnswer, earned, allMarks}
+use Rattle.order.specs.Claims.{Ready, PlainRun, AnyOrder}
+use Rattle.order.proofs.Machine.{Step}
+use Rattle.order.proofs.Pages.{byteMarks, marks-byte, marks-bytes}
+use Rattle.order.proofs.Truth.{byteEarned, earned-comm, Truth, Sound, Right, step-right}
+use Rattle.order.proofs.Fit.{event-fit, event-settings, run-granted}
+use Rattle.order.proofs.Steps.{HoldsIn, holds-imp, start-settings, start-holds, start-fit, translate-steps, flush-keeps, flush-at-keeps}
+
+-- ---- the marks of a list
+
+module _ (s : Settings) (start : List ℕ) where
+  -- on bytes
+  unfoldable pub byteAll : List Access → List ℕ → List ℕ
+  byteAll [] ram = ram
+  byteAll (q ∷ l) ram = byteAll l (byteEarned s start q ram)
+
+  earned-byte : (q : Access) (ram : List ℕ) → Bytes ram → earned s start q ram ≡ byteEarned s start q ram
+  unfolding earned byteEarned
+  earned-byte q ram small = ap (cond (passes s q) ram) (marks-byte q (plainWalk s start q) ram small)
+
+  earned-bytes : (q : Access) (ram : List ℕ) → Bytes ram → Bytes (byteEarned s start q ram)
+  unfolding byteEarned
+  earned-bytes q ram small = go (passes s q)
+    where
+      go : (b : Bool) → Bytes (cond b ram (byteMarks q (plainWalk s start q) ram))
+      go true = small
+      go false = marks-bytes q (plainWalk s start q) ram small
+
+  pub all-byte : (l : List Access) (ram : List ℕ) → Bytes ram → allMarks s start l ram ≡ byteAll l ram
+  unfolding allMarks byteAll
+  all-byte [] ram small = refl
+  all-byte (q ∷ l) ram small =
+      ap (allMarks s start l) (earned-byte q ram small) ∙ all-byte l (byteEarned s start q ram) (earned-bytes q ram small)
+
+  all-permᴰ : {l n : List Access} → List·Permᴰ l n → (ram : List ℕ) → byteAll l ram ≡ byteAll n ram
+  unfolding byteAll
+  all-permᴰ List·Permᴰ·nil ram = refl
+  all-permᴰ (List·Permᴰ·cons {a = a} {b = b} {l₁ = l} {l₂ = n} e p) ram = rw e (all-permᴰ p (byteEarned s start b ram))
+  all-permᴰ (List·Permᴰ·swap {a = a} {b = b} {l = l} e f) ram = rw (← e, ← f) (ap (byteAll l) (earned-comm s start b a ram))
+  all-permᴰ (List·Permᴰ·trans p q) ram = all-permᴰ p ram ∙ all-permᴰ q ram
+
+  all-perm : {l n : List Access} → Perm l n → (ram : List ℕ) → byteAll l ram ≡ byteAll n ram
+  all-perm p ram = ∥∥₁-elim p (List·isSet (hedberg ℕ-discrete) _ _) (λ d. all-permᴰ d ram)
+
+  -- ---- one run
+
+  -- what holds between events
+  record Good (m : Mmu) (ram : List ℕ) : Type 0 where
+    fit : fitOf m ≡ true
+    settings : settingsOf m ≡ s
+    sound : Sound s start HoldsIn holds-imp m ram
+
+  module _ (m : Mmu) (ram : List ℕ) (g : Good m ram) where
+    right : (q : Access) → Right s start HoldsIn holds-imp q ram (translateOf m q ram .mmu) (translateRam m q ram) (heardOf (translateOf m q ram .said .outcome))
+    right q =
+        step-right s start HoldsIn holds-imp q m _ ram (g .sound) _ _
+        (subst (λ (x : Settings). Step x HoldsIn q m ram (translateOf m q ram .mmu) (translateRam m q ram) (heardOf (translateOf m q ram .said .outcome)))
+        (g .settings) (translate-steps m q ram (g .fit)))
+
+    good-sound : (e : Event) → Sound s start HoldsIn holds-imp (stateAfter e m ram) (ramAfter e m ram)
+    unfolding stateAfter ramAfter
+    good-sound (Do q) = right q .sound
+    good-sound FlushAll = record { steady = g .sound .steady; truth = flush-keeps m (g .fit) (Truth s start ram) (g .sound .truth) }
+    good-sound (FlushAt va) = record { steady = g .sound .steady; truth = flush-at-keeps m (g .fit) (Truth s start ram) (g .sound .truth) va }
+
+    good-after : (e : Event) → Good (stateAfter e m ram) (ramAfter e m ram)
+    good-after e = record { fit = event-fit m (g .fit) ram e; settings = event-settings m (g .fit) ram e ∙ g .settings; sound = good-sound e }
+
+  answers-plain : (es : List Event) (m : Mmu) (ram : List ℕ) → Good m ram → answers es m ram ≡ map (plainAnswer s start) (accesses es)
+  unfolding answers accesses
+  answers-plain [] m ram g = refl
+  answers-plain (Do q ∷ es) m ram g = ap₂ _∷_ (right m ram g q .answer) (answers-plain es _ _ (good-after m ram g (Do q)))
+  answers-plain (FlushAll ∷ es) m ram g = answers-plain es _ _ (good-after m ram g FlushAll)
+  answers-plain (FlushAt va ∷ es) m ram g = answers-plain es _ _ (good-after m ram g (FlushAt va))
+
+  ends-marked : (es : List Event) (m : Mmu) (ram : List ℕ) → Good m ram → endRam es m ram ≡ byteAll (accesses es) ram
+  unfolding endRam accesses byteAll ramAfter
+  ends-marked [] m ram g = refl
+  ends-marked (Do q ∷ es) m ram g =
+      ends-marked es _ _ (good-after m ram g (Do q)) ∙ ap (byteAll (accesses es)) (right m ram g q .marks)
+  ends-marked (FlushAll ∷ es) m ram g = ends-marked es _ _ (good-after m ram g FlushAll)
+  ends-marked (FlushAt va ∷ es) m ram g = ends-marked es _ _ (good-after m ram g (FlushAt va))
+
+  -- ---- from an empty cache
+
+  module _ (ready : Ready s) (small : Bytes start) where
+    good-start : (config : TlbConfig) → roomFor config ≡ true → Good (startOf config s) start
+    good-start config room = record {
+      fit = start-fit s config ready room;
+      settings = start-settings s config;
+      sound = record {
+        steady = record { bytes = small; same = record { long = refl; words = λ a d. refl } };
+        truth = start-holds s config (Truth s start start);
+      };
+    }
+
+    pub run-marked : (config : TlbConfig) → roomFor config ≡ true → (es : List Event) → endRam es (startOf config s) start ≡ byteAll (accesses es) start
+    run-marked config room es = ends-marked es (startOf config s) start (good-start config room)
+
+    run-plain : (config : TlbConfig) → roomFor config ≡ true → (es : List Event) (l : List Access) → Perm l (accesses es)
+        → PlainRun s start config es l
+    run-plain config room es l p = record {
+      granted = run-granted es (startOf config s) start (start-fit s config ready room);
+      each = answers-plain es (startOf config s) start (good-start config room);
+      ram = run-marked config room es ∙ sym (all-perm p start) ∙ sym (all-byte l start small);
+    }
+
+pub any-order : AnyOrder
+any-order s ready start small one two r₁ r₂ es fs p =
+    (run-plain s start ready small one r₁ es (accesses es) Perm·rfl, run-plain s start ready small two r₂ fs (accesses es) p)

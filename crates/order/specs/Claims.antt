@@ -1,0 +1,88 @@
+-- Demand 3, and what every run keeps. proofs/Claims.antt has a proof of each.
+-- "Any order: two runs on equal RAM, each with an empty cache of its own size and policy, scheme, satp and switches equal and fixed, only
+-- the walker writing RAM; one list of accesses, each with its privilege, the other the same list in another order with flushes put in
+-- anywhere. Each access gets, in both, its own address where bypassed, else the address or fault of a plain walk over the starting RAM.
+-- Both RAMs end as the starting bytes plus the marks those accesses earn."
+use Prim.Native.Nat.{ℕ, _+_, _%_, _^_}
+use mathlib.Core.Path.{_≡_}
+use mathlib.Core.Bool.{true, _||_}
+use mathlib.Core.List.{List, [], map, Perm}
+use lib.ListN.{length, getD}
+use Rattle.bits.specs.Bits.{bit}
+use Rattle.pte.specs.Entry.{aPlace, dPlace}
+use Rattle.scheme.specs.Scheme.{validOf}
+use Rattle.walk.specs.declared.Access.{Access}
+use Rattle.walks.specs.Plain.{plain, Bytes}
+use Rattle.entry.specs.declared.TlbConfig.{TlbConfig}
+use Rattle.state.specs.State.{fitOf}
+use Rattle.mmu.specs.Calls.{roomFor}
+use Rattle.state.specs.declared.Mmu.{Mmu}
+use Rattle.order.specs.Runs.{Settings, startOf, Event, accesses, endState, endRam, answers, refusals}
+use Rattle.order.specs.Plain.{plainAnswer, allMarks, earnsA, earnsD, someOf}
+use Rattle.order.specs.Tallies.{countOf, translated, foundFault, walkFault, evicts}
+
+-- what the settings have to be: a valid scheme, whose widths are an array of four
+pub record Ready (s : Settings) : Type 0 where
+  pub valid : validOf (s .scheme) ≡ true
+  pub four : length (s .scheme .«level_bits») ≡ 4
+
+-- a run from an empty cache: nothing is refused, each access gets its plain answer, and the RAM ends with the marks that the accesses l earn
+pub record PlainRun (s : Settings) (start : List ℕ) (config : TlbConfig) (es : List Event) (l : List Access) : Type 0 where
+  pub granted : refusals es (startOf config s) start ≡ []
+  pub each : answers es (startOf config s) start ≡ map (plainAnswer s start) (accesses es)
+  pub ram : endRam es (startOf config s) start ≡ allMarks s start l start
+
+-- demand 3: both runs are plain, with the marks of the one list
+abbrev pub AnyOrder : Type 0
+AnyOrder =
+    (s : Settings) → Ready s → (start : List ℕ) → Bytes start
+    → (one two : TlbConfig) → roomFor one ≡ true → roomFor two ≡ true
+    → (es fs : List Event) → Perm (accesses es) (accesses fs)
+    → PlainRun s start one es (accesses es) × PlainRun s start two fs (accesses es)
+
+-- the byte at k at the end: A and D are those of the start and those earned there, and all else is as at the start
+pub record EndByte (s : Settings) (start end : List ℕ) (l : List Access) (k : ℕ) : Type 0 where
+  pub a : bit aPlace (getD end k 0) ≡ (bit aPlace (getD start k 0) || someOf (earnsA s start k) l)
+  pub d : bit dPlace (getD end k 0) ≡ (bit dPlace (getD start k 0) || someOf (earnsD s start k) l)
+  pub rest : plain (getD end k 0) ≡ plain (getD start k 0)
+
+-- "the starting bytes plus the marks those accesses earn", byte by byte
+abbrev pub EndBytes : Type 0
+EndBytes =
+    (s : Settings) → Ready s → (start : List ℕ) → Bytes start
+    → (config : TlbConfig) → roomFor config ≡ true → (es : List Event)
+    → (length (endRam es (startOf config s) start) ≡ length start)
+    × ((k : ℕ) → EndByte s start (endRam es (startOf config s) start) (accesses es) k)
+
+-- a run that starts on a fit state is never refused and ends fit
+abbrev pub NeverRefused : Type 0
+NeverRefused =
+    (es : List Event) (m : Mmu) (ram : List ℕ) → fitOf m ≡ true
+    → (refusals es m ram ≡ []) × (fitOf (endState es m ram) ≡ true)
+
+-- "Tallies wrap at 2^64"
+abbrev pub Wraps : ℕ → ℕ → Type 0
+Wraps a b = a % 2 ^ 64 ≡ b % 2 ^ 64
+
+-- what a run adds to the tallies
+pub record Tallied (es : List Event) (m : Mmu) (ram : List ℕ) : Type 0 where
+  -- "Hits plus misses plus faults on a found entry equal the accesses neither bypassed nor refused since the tallies were 0, mod 2^64."
+  pub accesses :
+      Wraps
+      (endState es m ram .tlb .stats .hits + endState es m ram .tlb .stats .misses + countOf foundFault es m ram)
+      (countOf translated es m ram)
+  -- "a found entry that forbids the access .. is a page fault", "a faulting walk adds a page fault"
+  pub faults :
+      Wraps
+      (endState es m ram .tlb .stats .«page_faults»)
+      (m .tlb .stats .«page_faults» + countOf foundFault es m ram + countOf walkFault es m ram)
+  -- "else a victim, and then one eviction is counted"
+  pub evictions :
+      Wraps
+      (endState es m ram .tlb .stats .evictions)
+      (m .tlb .stats .evictions + countOf evicts es m ram)
+
+abbrev pub TalliesAddUp : Type 0
+TalliesAddUp =
+    (es : List Event) (m : Mmu) (ram : List ℕ) → fitOf m ≡ true → m .tlb .stats .hits ≡ 0 → m .tlb .stats .misses ≡ 0
+    → Tallied es m ram

@@ -1,0 +1,4 @@
+pub mod Runs
+pub mod Plain
+pub mod Tallies
+pub mod Claims

@@ -1,0 +1,2 @@
+pub mod CacheLaws
+pub mod Fitness
