@@ -2,7 +2,9 @@
 use mathlib.Core.Path.{refl}
 use Rattle.scheme.specs.Refusals.{asked}
 use Rattle.scheme.specs.Scheme.{total, okWidths, validOf, rootPa}
-use Rattle.edges.specs.Edges.{P1, P2, P3, P8, P9}
+use Rattle.entry.specs.Geometry.{powUp, entriesFor, setsFor}
+use Rattle.mmu.specs.Calls.{newOf}
+use Rattle.edges.specs.Edges.{P1, P2, P3, P4, P5, P6, P7, P8, P9}
 
 pub p1 : P1
 unfolding validOf okWidths total
@@ -15,6 +17,22 @@ p2 = refl
 pub p3 : P3
 unfolding validOf okWidths total
 p3 = refl
+
+pub p4 : P4
+unfolding setsFor entriesFor powUp
+p4 = (refl, refl)
+
+pub p5 : P5
+unfolding entriesFor powUp
+p5 = (refl, refl)
+
+pub p6 : P6
+unfolding entriesFor powUp newOf
+p6 = (refl, refl)
+
+pub p7 : P7
+unfolding entriesFor powUp
+p7 = refl
 
 pub p8 : P8
 p8 = (refl, refl)

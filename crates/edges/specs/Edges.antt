@@ -9,10 +9,25 @@ use Rattle.scheme.specs.Scheme.{validOf, sv32Scheme, rootPa}
 use Rattle.scheme.specs.declared.PagingScheme.{PagingScheme}
 use Rattle.scheme.specs.declared.map.MapKind.the-variants.{Offset}
 use Rattle.scheme.specs.declared.refusal.Asked.the-variants.{Is}
+use Rattle.scheme.specs.declared.refusal.Refusal.the-variants.{TooManyEntries}
+use Rattle.scheme.specs.declared.refusal.Said.the-variants.{Refused}
+use Rattle.entry.specs.Geometry.{entriesFor, setsFor, defaultConfig}
+use Rattle.entry.specs.declared.TlbConfig.{TlbConfig}
+use Rattle.mmu.specs.Calls.{roomFor, newOf}
 
 -- a scheme of one or two widths
 abbrev pub schemeOf : ℕ → ℕ → ℕ → ℕ → PagingScheme
 schemeOf offset levels a b = record { «offset_bits» = offset; «level_bits» = a ∷ b ∷ 0 ∷ 0 ∷ []; levels = levels }
+
+-- a configuration of so many entries and ways, with the default's policy and times
+abbrev pub configOf : ℕ → ℕ → TlbConfig
+configOf entries ways = record {
+  «entry_count» = entries;
+  associativity = ways;
+  replacement = defaultConfig .replacement;
+  «hit_latency» = defaultConfig .«hit_latency»;
+  «miss_penalty» = defaultConfig .«miss_penalty»;
+}
 
 -- "P1 Sv32 valid"
 abbrev pub P1 : Type 0
@@ -25,6 +40,22 @@ P2 = validOf (schemeOf 12 1 20 0) ≡ false
 -- "P3 offset 30 with 1, 1 valid"
 abbrev pub P3 : Type 0
 P3 = validOf (schemeOf 30 2 1 1) ≡ true
+
+-- "P4 32 entries, 3 ways: 33 entries, 11 sets"
+abbrev pub P4 : Type 0
+P4 = (entriesFor 32 3 ≡ 33) × (setsFor 32 3 ≡ 11)
+
+-- "P5 128 and 4: 128"
+abbrev pub P5 : Type 0
+P5 = (entriesFor 128 4 ≡ 128) × (roomFor (configOf 128 4) ≡ true)
+
+-- "P6 128 and 3: 129, refused"
+abbrev pub P6 : Type 0
+P6 = (entriesFor 128 3 ≡ 129) × (newOf (configOf 128 3) .said ≡ Refused TooManyEntries)
+
+-- "P7 0 and 0: one entry"
+abbrev pub P7 : Type 0
+P7 = entriesFor 0 0 ≡ 1
 
 -- "P8 delta of -1": FFF00000; and 4096 gives 0
 abbrev pub P8 : Type 0

@@ -10,9 +10,13 @@ pub fn hex(n: u32) {
 }
 
 // A space, and a decimal.
-pub fn num(n: u32) {
+pub fn large(n: u64) {
     text(b" ");
-    io::print_decimal(1, n as u64);
+    io::print_decimal(1, n);
+}
+
+pub fn num(n: u32) {
+    large(n as u64);
 }
 
 pub fn small(n: u8) {
