@@ -21,34 +21,34 @@ use Rattle.access.specs.declared.Outcome.the-variants as Outcome
 use Rattle.mmu.specs.declared.Kept.{Kept}
 use Rattle.access.specs.declared.Served.{Served}
 
-abbrev pub granted : Mmu → Kept
-granted m = record { said = Said.Granted; mmu = m }
+abbrev pub grantedWith : Mmu → Kept
+grantedWith m = record { said = Said.Granted; mmu = m }
 
-abbrev pub refused : Refusal → Mmu → Kept
-refused r m = record { said = Said.Refused r; mmu = m }
+abbrev pub refusedWith : Refusal → Mmu → Kept
+refusedWith r m = record { said = Said.Refused r; mmu = m }
 
 -- not "the TLB would have more than 128 entries"
 abbrev pub roomFor : TlbConfig → Bool
 roomFor c = leb (entriesFor (c .«entry_count») (c .associativity)) 128
 
 unfoldable pub newOf : TlbConfig → Kept
-newOf c = cond (roomFor c) (granted (stateNew c)) (refused TooManyEntries (stateNew defaultConfig))
+newOf c = cond (roomFor c) (grantedWith (stateNew c)) (refusedWith TooManyEntries (stateNew defaultConfig))
 
 -- 3 on a state that is not fit, and else what comes next
 abbrev pub ifFit : Mmu → Kept → Kept
-ifFit m next = cond (fitOf m) next (refused Unfit m)
+ifFit m next = cond (fitOf m) next (refusedWith Unfit m)
 
 unfoldable pub setSchemeOf : Mmu → PagingScheme → Kept
-setSchemeOf m s = ifFit m (cond (validOf s) (granted (withScheme m s)) (refused BadScheme m))
+setSchemeOf m s = ifFit m (cond (validOf s) (grantedWith (withScheme m s)) (refusedWith BadScheme m))
 
 unfoldable pub reconfigureOf : Mmu → TlbConfig → Kept
-reconfigureOf m c = ifFit m (cond (roomFor c) (granted (withTlb m (tlbReconfigure (m .tlb) c))) (refused TooManyEntries m))
+reconfigureOf m c = ifFit m (cond (roomFor c) (grantedWith (withTlb m (tlbReconfigure (m .tlb) c))) (refusedWith TooManyEntries m))
 
 unfoldable pub flushOf : Mmu → Kept
-flushOf m = ifFit m (granted (withTlb m (tlbFlush (m .tlb))))
+flushOf m = ifFit m (grantedWith (withTlb m (tlbFlush (m .tlb))))
 
 unfoldable pub flushVaddrOf : Mmu → ℕ → Kept
-flushVaddrOf m va = ifFit m (granted (withTlb m (tlbFlushVaddr (m .tlb) va)))
+flushVaddrOf m va = ifFit m (grantedWith (withTlb m (tlbFlushVaddr (m .tlb) va)))
 
 unfoldable pub translateOf : Mmu → Access → List ℕ → Served
 translateOf m q ram =

@@ -8,16 +8,45 @@ use scheme::Refusal;
 use scheme::Said;
 use scheme::Satp;
 use state::Mmu;
+use tlb::Tlb;
 use walk::Access;
 ghost use mathlib.Core.Path.{_≡_};
 ghost use mathlib.Core.Bool.{true};
-ghost use Rattle.state.specs.State.{stateNew};
-ghost use Rattle.mmu.specs.Calls.{newOf, setSchemeOf, reconfigureOf, flushOf, flushVaddrOf, translateOf, translateRam, roomFor};
+ghost use Rattle.scheme.specs.Scheme.{validOf};
+ghost use Rattle.state.specs.State.{stateNew, withScheme, withTlb};
+ghost use Rattle.mmu.specs.Calls.{grantedWith, refusedWith, newOf, setSchemeOf, reconfigureOf, flushOf, flushVaddrOf, translateOf, translateRam, roomFor};
 
 // A call that changes the state: whether it was granted, and the state.
 pub struct Kept {
     pub said: Said,
     pub mmu: Mmu,
+}
+
+fn granted(m: Mmu) -> Kept
+    ensures { λ r. ⌜ r ≡ grantedWith m ⌝ }
+{
+    Kept {
+        said: Said::Granted,
+        mmu: m,
+    }
+}
+
+// A refusal hands the state back as it came.
+fn refused(why: Refusal, m: Mmu) -> Kept
+    ensures { λ r. ⌜ r ≡ refusedWith why m ⌝ }
+{
+    Kept {
+        said: Said::Refused(why),
+        mmu: m,
+    }
+}
+
+fn with_tlb(m: Mmu, t: Tlb) -> Mmu
+    ensures { λ r. ⌜ r ≡ withTlb m t ⌝ }
+{
+    let mut n = m;
+    n.tlb = t;
+    n
 }
 
 // Whether a configuration's entries fit the array.
@@ -46,33 +75,16 @@ pub fn new(config: TlbConfig) -> Kept
     ensures { λ r. ⌜ r ≡ newOf config ⌝ }
 {
     if has_room(config) {
-        return Kept {
-            said: Said::Granted,
-            mmu: made_new(config),
-        };
+        return granted(made_new(config));
     }
-    Kept {
-        said: Said::Refused(Refusal::TooManyEntries),
-        mmu: made_new(entry::default_config()),
-    }
+    refused(Refusal::TooManyEntries, made_new(entry::default_config()))
 }
 
-// Adopts a paging scheme; entries stay. Refusals 3, then 1.
-pub fn set_scheme(m: Mmu, s: PagingScheme) -> Kept
-    ensures { λ r. ⌜ r ≡ setSchemeOf m s ⌝ }
+// The state with a scheme that is known to be valid.
+fn adopt(m: Mmu, s: PagingScheme) -> Mmu
+    requires { ⌜ validOf s ≡ true ⌝ }
+    ensures { λ r. ⌜ r ≡ withScheme m s ⌝ }
 {
-    if !state::fits(m) {
-        return Kept {
-            said: Said::Refused(Refusal::Unfit),
-            mmu: m,
-        };
-    }
-    if !s.is_valid() {
-        return Kept {
-            said: Said::Refused(Refusal::BadScheme),
-            mmu: m,
-        };
-    }
     let c = s.leaf_masks();
     let masks = c.masks;
     let t = m.tlb;
@@ -80,10 +92,20 @@ pub fn set_scheme(m: Mmu, s: PagingScheme) -> Kept
     let mut n = m;
     n.tlb = u;
     n.scheme = s;
-    Kept {
-        said: Said::Granted,
-        mmu: n,
+    n
+}
+
+// Adopts a paging scheme; entries stay. Refusals 3, then 1.
+pub fn set_scheme(m: Mmu, s: PagingScheme) -> Kept
+    ensures { λ r. ⌜ r ≡ setSchemeOf m s ⌝ }
+{
+    if !state::fits(m) {
+        return refused(Refusal::Unfit, m);
     }
+    if !s.is_valid() {
+        return refused(Refusal::BadScheme, m);
+    }
+    granted(adopt(m, s))
 }
 
 // Starts the TLB afresh with another configuration; the rest stays. Refusals 3, then 2.
@@ -91,25 +113,13 @@ pub fn reconfigure(m: Mmu, config: TlbConfig) -> Kept
     ensures { λ r. ⌜ r ≡ reconfigureOf m config ⌝ }
 {
     if !state::fits(m) {
-        return Kept {
-            said: Said::Refused(Refusal::Unfit),
-            mmu: m,
-        };
+        return refused(Refusal::Unfit, m);
     }
     if !has_room(config) {
-        return Kept {
-            said: Said::Refused(Refusal::TooManyEntries),
-            mmu: m,
-        };
+        return refused(Refusal::TooManyEntries, m);
     }
     let t = m.tlb;
-    let u = tlb::reconfigure(t, config);
-    let mut n = m;
-    n.tlb = u;
-    Kept {
-        said: Said::Granted,
-        mmu: n,
-    }
+    granted(with_tlb(m, tlb::reconfigure(t, config)))
 }
 
 // Clears every entry's valid mark. Refusal 3.
@@ -117,19 +127,10 @@ pub fn flush(m: Mmu) -> Kept
     ensures { λ r. ⌜ r ≡ flushOf m ⌝ }
 {
     if !state::fits(m) {
-        return Kept {
-            said: Said::Refused(Refusal::Unfit),
-            mmu: m,
-        };
+        return refused(Refusal::Unfit, m);
     }
     let t = m.tlb;
-    let u = tlb::flush(t);
-    let mut n = m;
-    n.tlb = u;
-    Kept {
-        said: Said::Granted,
-        mmu: n,
-    }
+    granted(with_tlb(m, tlb::flush(t)))
 }
 
 // Clears the valid marks of the entries that answer for an address, in any address space. Refusal 3.
@@ -137,19 +138,10 @@ pub fn flush_vaddr(m: Mmu, vaddr: u32) -> Kept
     ensures { λ r. ⌜ r ≡ flushVaddrOf m vaddr ⌝ }
 {
     if !state::fits(m) {
-        return Kept {
-            said: Said::Refused(Refusal::Unfit),
-            mmu: m,
-        };
+        return refused(Refusal::Unfit, m);
     }
     let t = m.tlb;
-    let u = tlb::flush_vaddr(t, vaddr);
-    let mut n = m;
-    n.tlb = u;
-    Kept {
-        said: Said::Granted,
-        mmu: n,
-    }
+    granted(with_tlb(m, tlb::flush_vaddr(t, vaddr)))
 }
 
 // Translates an access: the address and the stall, or the page fault. Refusal 3.

@@ -8,7 +8,7 @@ use native.Mathlib.Omega.{arith}
 use Rattle.pte.specs.Entry.{ppnOf}
 use Rattle.scheme.specs.Satp.{asidOf}
 use Rattle.scheme.specs.Scheme.{validOf}
-use Rattle.scheme.proofs.Widths.{and-left, and-right}
+use Rattle.bits.proofs.Bools.{and-left, and-right}
 use Rattle.walker.specs.Descent.{sv32}
 use Rattle.walker.specs.declared.Reason.{Reason}
 use Rattle.walk.specs.Answer.{markedBy, physicalOf, wordsOf}

@@ -10,7 +10,8 @@ use lib.Seq.{length-take-le, take-at}
 use borrow.Author.Tests.{leb-true, eqb-true, eq-eqb}
 use Rattle.scheme.specs.Satp.{asidOf}
 use Rattle.scheme.specs.Scheme.{widthsOf, classes, padded}
-use Rattle.scheme.proofs.Widths.{valid, and-right}
+use Rattle.bits.proofs.Bools.{and-right}
+use Rattle.scheme.proofs.Widths.{valid}
 use Rattle.scheme.proofs.Classes.{length-classes}
 use Rattle.walker.specs.Descent.{sv32}
 use Rattle.walk.specs.Answer.{markedBy}

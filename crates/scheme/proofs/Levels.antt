@@ -9,9 +9,10 @@ use lib.Seq.{getD-take, length-take-le}
 use lib.Pow.{pow-mono}
 use borrow.Author.Tests.{ltb-true}
 use Rattle.bits.proofs.Masks.{one-shl}
+use Rattle.bits.proofs.Bools.{and-left, and-right}
 use Rattle.scheme.specs.declared.PagingScheme.{PagingScheme}
 use Rattle.scheme.specs.Scheme.{widthsOf, validOf, knownLevel, shiftOf}
-use Rattle.scheme.proofs.Widths.{Valid, valid, and-left, and-right, ok-at, total-at}
+use Rattle.scheme.proofs.Widths.{Valid, valid, ok-at, total-at}
 
 -- a level of a valid scheme
 module _ (s : PagingScheme) (four : length (s .«level_bits») ≡ 4) (v : Valid s) (level : ℕ) (h : level < s .levels) where

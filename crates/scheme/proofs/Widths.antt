@@ -2,13 +2,14 @@
 use Prim.Native.Nat.{ℕ, zero, suc, _+_, _≤_, _<_}
 use native.Mathlib.Numerals.{add-one}
 use native.Mathlib.Omega.{arith}
-use mathlib.Core.Path.{_≡_, refl, sym, ap, _∙_}
+use mathlib.Core.Path.{_≡_, sym, ap, _∙_}
 use mathlib.Core.List.{List, [], _∷_}
-use mathlib.Core.Bool.{Bool, true, false, _&&_, and-true, and-assoc, true≢false}
+use mathlib.Core.Bool.{Bool, true, _&&_, and-true, and-assoc}
 use lib.ListN.{length, getD, take, drop, drop-of-length-le}
 use lib.Seq.{drop-cons, getD-take, length-take-le}
 use lib.Dec.{leb}
 use borrow.Author.Tests.{leb-true, eqb-true}
+use Rattle.bits.proofs.Bools.{and-left, and-right}
 use Rattle.scheme.specs.declared.PagingScheme.{PagingScheme}
 use Rattle.scheme.specs.Scheme.{total, okWidths, between, widthsOf, validOf}
 
@@ -38,14 +39,6 @@ module _ (l : List ℕ) (n : ℕ) (long : n ≤ length l) where
   pub ok-end : (i : ℕ) → n ≤ i → (ok : Bool) → ok && okWidths (drop i (take n l)) ≡ ok
   unfolding okWidths
   ok-end i h ok = ap (λ (ws : List ℕ). ok && okWidths ws) (rest-end i h) ∙ and-true ok
-
-pub and-left : (a b : Bool) → a && b ≡ true → a ≡ true
-and-left true b e = refl
-and-left false b e = e
-
-pub and-right : (a b : Bool) → a && b ≡ true → b ≡ true
-and-right true b e = e
-and-right false b e = absurd (true≢false (sym e))
 
 -- what validity gives
 pub record Valid (s : PagingScheme) : Type 0 where
