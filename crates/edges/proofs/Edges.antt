@@ -4,7 +4,8 @@ use Rattle.scheme.specs.Refusals.{asked}
 use Rattle.scheme.specs.Scheme.{total, okWidths, validOf, rootPa}
 use Rattle.entry.specs.Geometry.{powUp, entriesFor, setsFor}
 use Rattle.mmu.specs.Calls.{newOf}
-use Rattle.edges.specs.Edges.{P1, P2, P3, P4, P5, P6, P7, P8, P9}
+use Rattle.maps.proofs.Edges as maps
+use Rattle.edges.specs.Edges.{P1, P2, P3, P4, P5, P6, P7, P8, P9, P11, P12}
 
 pub p1 : P1
 unfolding validOf okWidths total
@@ -40,3 +41,9 @@ p8 = (refl, refl)
 pub p9 : P9
 unfolding rootPa asked validOf okWidths total
 p9 = (refl, refl)
+
+pub p11 : P11
+p11 = maps.p11
+
+pub p12 : P12
+p12 = maps.p12

@@ -14,6 +14,7 @@ use Rattle.scheme.specs.declared.refusal.Said.the-variants.{Refused}
 use Rattle.entry.specs.Geometry.{entriesFor, setsFor, defaultConfig}
 use Rattle.entry.specs.declared.TlbConfig.{TlbConfig}
 use Rattle.mmu.specs.Calls.{roomFor, newOf}
+use Rattle.maps.specs.Edges as maps
 
 -- a scheme of one or two widths
 abbrev pub schemeOf : ℕ → ℕ → ℕ → ℕ → PagingScheme
@@ -64,3 +65,12 @@ P8 = (deltaOf (Offset (negsuc 0)) ≡ 0xFFF0_0000) × (deltaOf (Offset (pos 4096
 -- "P9 `root_pa` of 65536 for Sv32: F000; of 100: 0"
 abbrev pub P9 : Type 0
 P9 = (rootPa sv32Scheme 65536 ≡ Is 0xF000) × (rootPa sv32Scheme 100 ≡ Is 0)
+
+-- "P11 Sv32, root 10000h, RAM 11000h, identity RWXU, window 400000h to 401000h: root word 1 is 3C01, the child is at F000, its word 0 is 1F
+-- relative and 0010001F absolute": written out in `maps`, where it also shows that the two rules differ
+abbrev pub P11 : Type 0
+P11 = maps.P11
+
+-- "P12 Same with 10FFFh bytes: 5"
+abbrev pub P12 : Type 0
+P12 = maps.P12

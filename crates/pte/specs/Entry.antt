@@ -1,6 +1,6 @@
 -- The fields of a page-table entry: "PTE bits 0-7 are V R W X U G A D, the PPN is bits 31-10".
 use Prim.Native.Nat.{ℕ}
-use mathlib.Core.Bool.{Bool, _||_}
+use mathlib.Core.Bool.{Bool, not, _&&_, _||_}
 use Rattle.bits.specs.Bits.{bit, fieldOf}
 use Rattle.pte.specs.declared.PtePerms.{PtePerms}
 
@@ -26,6 +26,10 @@ isLeaf p = (p .r || p .w) || p .x
 
 abbrev pub leafOf : ℕ → Bool
 leafOf w = isLeaf (permsOf w)
+
+-- "W set with R clear"
+abbrev pub reserved : PtePerms → Bool
+reserved p = p .w && not (p .r)
 
 -- the PPN, in a format whose PPN has so many bits
 abbrev pub ppnIn : ℕ → ℕ → ℕ

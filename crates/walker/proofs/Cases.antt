@@ -4,9 +4,9 @@ use mathlib.Core.Path.{_≡_, sym, _∙_}
 use mathlib.Core.Bool.{true, false, not}
 use mathlib.Core.List.{List}
 use lib.Dec.{eqb}
-use Rattle.pte.specs.Entry.{validBit, permsOf, leafOf, ppnIn}
+use Rattle.pte.specs.Entry.{validBit, permsOf, leafOf, ppnIn, reserved}
 use Rattle.memory.specs.Word.{readable, leAt}
-use Rattle.walker.specs.Descent.{Format, reserved, badIf, leafIs, entryIs, metAt}
+use Rattle.walker.specs.Descent.{Format, badIf, leafIs, entryIs, metAt}
 use Rattle.walker.specs.declared.Reason.the-variants.{Unreadable, Invalid, WriteOnly, Misaligned}
 use Rattle.walker.specs.declared.Met.the-variants.{Bad, Table, Leaf}
 

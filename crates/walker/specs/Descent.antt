@@ -2,11 +2,10 @@
 -- tables and the list of index widths. It only reads, and asks nothing about who asks.
 use Prim.Native.Nat.{ℕ, _+_, _-_, _*_, _%_, _^_}
 use mathlib.Core.List.{List, [], _∷_}
-use mathlib.Core.Bool.{Bool, true, false, not, _&&_, cond}
+use mathlib.Core.Bool.{Bool, true, false, not, cond}
 use lib.Dec.{eqb}
 use Rattle.bits.specs.Bits.{fieldOf}
-use Rattle.pte.specs.Entry.{validBit, permsOf, leafOf, ppnIn}
-use Rattle.pte.specs.declared.PtePerms.{PtePerms}
+use Rattle.pte.specs.Entry.{validBit, permsOf, leafOf, reserved, ppnIn}
 use Rattle.memory.specs.Word.{readable, leAt}
 use Rattle.scheme.specs.Scheme.{total, widthsOf}
 use Rattle.scheme.specs.declared.PagingScheme.{PagingScheme}
@@ -27,10 +26,6 @@ pub record Format : Type 0 where
 -- document 01's: words of four bytes, addresses "kept to 32 bits", "the PPN is bits 31-10"
 abbrev pub sv32 : Format
 sv32 = record { bytes = 4; space = 32; ppnBits = 22 }
-
--- "W set with R clear"
-abbrev pub reserved : PtePerms → Bool
-reserved p = p .w && not (p .r)
 
 abbrev pub ended : End → ℕ → ℕ → Descent
 ended e shift level = record { end = e; shift = shift; level = level }

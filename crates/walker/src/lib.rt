@@ -9,7 +9,8 @@ ghost use mathlib.Core.Bool.{true};
 ghost use Prim.Native.Nat.{_-_, _%_, _^_, _<_, _≤_};
 ghost use lib.Dec.{eqb};
 ghost use Rattle.scheme.specs.Scheme.{validOf};
-ghost use Rattle.walker.specs.Descent.{reserved, sv32, entryAt, leafIs, entryIs, metAt, descentOf};
+ghost use Rattle.pte.specs.Entry.{reserved};
+ghost use Rattle.walker.specs.Descent.{sv32, entryAt, leafIs, entryIs, metAt, descentOf};
 ghost use Rattle.walker.specs.Found.{foundOf};
 
 // Why a walk faults: a descent stops for one of the first five.

@@ -1,7 +1,6 @@
 use mathlib.Core.Path.{_≡_, _∙_, ap}
 use mathlib.Core.Bool.{false, not}
-use Rattle.pte.specs.Entry.{validBit, permsOf}
-use Rattle.walker.specs.Descent.{reserved}
+use Rattle.pte.specs.Entry.{validBit, permsOf, reserved}
 use Rattle.walker.specs.declared.Met.the-variants.{Table}
 use Rattle.walker.proofs.Cases.{said, invalid, write-only, is-leaf, is-table}
 use borrow.Author.Needs.{needs}

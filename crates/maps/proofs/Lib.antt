@@ -1,0 +1,13 @@
+pub mod Fields
+pub mod Apart
+pub mod Tables
+pub mod Holds
+pub mod Meets
+pub mod Walked
+pub mod Sums
+pub mod Address
+pub mod Rules
+pub mod Kept
+pub mod Counted
+pub mod Edges
+pub mod Claims

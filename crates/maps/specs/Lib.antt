@@ -1,0 +1,5 @@
+pub mod Way
+pub mod Written
+pub mod Tables
+pub mod Edges
+pub mod Claims

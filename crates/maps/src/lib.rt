@@ -1,0 +1,1 @@
+// No code: what holds of every installed map.

@@ -1,0 +1,3 @@
+pub mod Map
+pub mod Writes
+pub mod Levels
