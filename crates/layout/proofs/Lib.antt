@@ -1,0 +1,5 @@
+pub mod Words
+pub mod Rows
+pub mod Records
+pub mod Fits
+pub mod Good

@@ -1,0 +1,4 @@
+pub mod Decimals
+pub mod Going
+pub mod Puts
+pub mod Stores
