@@ -19,11 +19,12 @@ use Rattle.walk.specs.declared.Verdict.{Verdict}
 use Rattle.walk.specs.declared.Verdict.the-variants.{Page, Fault}
 use Rattle.walk.proofs.Judged.{leaf-read}
 use Rattle.walks.specs.Plain.{plain}
+use Rattle.walks.proofs.Marks.{mark-plain}
 use Rattle.access.specs.Translate.{isStore}
 use Rattle.order.specs.Runs.{Settings}
 use Rattle.order.specs.Plain.{passes, plainWalk, pageAt, earnsA, earnsD, someOf}
 use Rattle.order.specs.Claims.{EndBytes}
-use Rattle.order.proofs.Marks.{byteMarked, mark-a, mark-d, mark-plain}
+use Rattle.order.proofs.Marks.{byteMarked, mark-a, mark-d}
 use Rattle.order.proofs.Pages.{byteMarks}
 use Rattle.order.proofs.Truth.{byteEarned}
 use Rattle.order.proofs.Order.{byteAll, run-marked}

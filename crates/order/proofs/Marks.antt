@@ -1,31 +1,29 @@
 -- The marks of a word are the marks of its low byte; on bytes they commute, and what is marked twice is marked once.
-use Prim.Native.Nat.{ℕ, zero, suc, _+_, _-_, _*_, _/_, _%_, _^_, _<_}
+use Prim.Native.Nat.{ℕ, zero, suc, _+_, _-_, _*_, _/_, _%_, _<_}
 use mathlib.Core.Path.{_≡_, refl, sym, ap, _∙_}
 use mathlib.Core.Logic.{_≢_}
 use mathlib.Core.Bool.{Bool, true, false, not, cond, _&&_, _||_, or-false, or-true}
 use mathlib.Core.List.{List}
 use native.Mathlib.Decide.{ℕ-discrete, decLt}
-use native.Mathlib.Nat.{mod-lt, div-div-eq-div-mul}
+use native.Mathlib.Nat.{div-div-eq-div-mul}
 use native.Mathlib.Omega.{arith}
-use lib.Dec.{eqb, lit<}
+use lib.Dec.{eqb}
 use lib.ListN.{length, getD, set, length-set}
 use lib.Seq.{getD-set-same, getD-set-other, set-comm, set-set, set-out, set-getD}
 use borrow.Author.Tests.{eqb-true, eq-eqb}
 use Rattle.bits.specs.Bits.{bit, withBit}
-use Rattle.bits.proofs.Flags.{Digit, is0, is1, digit}
+use Rattle.bits.proofs.Flags.{Digit, is0, is1}
 use Rattle.memory.specs.Word.{leAt, putAt}
 use Rattle.memory.proofs.Laws.{read-other, after}
 use Rattle.scheme.specs.declared.access.AccessType.{AccessType}
 use Rattle.scheme.specs.declared.access.AccessType.the-variants.{Fetch, Load, Store}
 use Rattle.walker.specs.Descent.{sv32}
 use Rattle.walk.specs.Answer.{markOf, markIn}
-use Rattle.walks.specs.Plain.{plain, Bytes}
+use Rattle.walks.specs.Plain.{Bytes}
+use Rattle.walks.proofs.Marks.{digit-of}
 use Rattle.access.specs.Translate.{isStore}
 
 -- ---- one byte
-
-digit-of : (n w : ℕ) → Digit (w / 2 ^ n % 2)
-digit-of n w = digit (w / 2 ^ n % 2) (mod-lt (w / 2 ^ n) (lit< tt))
 
 -- what omega reads
 a-is : (w : ℕ) → withBit 6 w ≡ w + 64 * (1 - w / 64 % 2)
@@ -139,21 +137,6 @@ pub mark-d : (k : AccessType) (w : ℕ) → bit 7 (markOf k w) ≡ (bit 7 w || i
 mark-d Fetch w = a-leaves-d w ∙ sym (or-false (bit 7 w))
 mark-d Load w = a-leaves-d w ∙ sym (or-false (bit 7 w))
 mark-d Store w = d-set (withBit 6 w) ∙ sym (or-true (bit 7 w))
-
--- all but bits 6 and 7
-plain-by : (v w : ℕ) → v / 256 ≡ w / 256 → v % 64 ≡ w % 64 → plain v ≡ plain w
-plain-by v w h l = rw (h, l)
-
-a-plain : (w : ℕ) → plain (withBit 6 w) ≡ plain w
-a-plain w = plain-by (withBit 6 w) w (omega (arith, a-is w)) (omega (arith, a-is w))
-
-d-plain : (w : ℕ) → plain (withBit 7 w) ≡ plain w
-d-plain w = plain-by (withBit 7 w) w (omega (arith, d-is w)) (omega (arith, d-is w))
-
-pub mark-plain : (k : AccessType) (w : ℕ) → plain (markOf k w) ≡ plain w
-mark-plain Fetch w = a-plain w
-mark-plain Load w = a-plain w
-mark-plain Store w = d-plain (withBit 6 w) ∙ a-plain w
 
 -- ---- a byte of RAM
 

@@ -1,6 +1,5 @@
 -- The records half way: what is left gives, from here, what all of them give from the start.
 use mathlib.Core.Path.{_≡_, refl, _∙_}
-use mathlib.Core.Bool.{Bool, true, false, cond}
 use mathlib.Core.List.{List}
 use Prim.Native.Nat.{ℕ, zero, suc, _+_, _-_, _*_, _≤_, _<_}
 use native.Mathlib.Omega.{arith}
@@ -8,18 +7,13 @@ use lib.ListN.{length}
 use Rattle.walk.specs.declared.Access.{Access}
 use Rattle.state.specs.State.{fitOf}
 use Rattle.state.specs.declared.Mmu.{Mmu}
-use Rattle.access.specs.declared.Served.{Served}
 use Rattle.mmu.specs.Calls.{translateOf}
 use Rattle.bundle.specs.Parts.{eventAt}
 use Rattle.writer.specs.Put.{Put}
 use Rattle.writer.proofs.Puts as Puts
 use Rattle.writer.proofs.Going as Going
-use Rattle.text.proofs.Numbers.{Short, served-short}
+use Rattle.text.proofs.Numbers.{Short, either, served-short}
 use Rattle.steps.specs.Steps.{eventsFrom, stepMmu, stepRam, stepLine, endMmu, endRam, linesFrom}
-
-either : (b : Bool) (x y : Served) → Short x → Short y → Short (cond b x y)
-either true x y p q = p
-either false x y p q = q
 
 -- the cause that an answer tells is short, as `put_answer` asks
 pub translated-short : (m : Mmu) (q : Access) (ram : List ℕ) → Short (translateOf m q ram)

@@ -46,7 +46,7 @@ known Fetch = omega arith
 known Load = omega arith
 known Store = omega arith
 
-either : (b : Bool) (x y : Served) → Short x → Short y → Short (cond b x y)
+pub either : (b : Bool) (x y : Served) → Short x → Short y → Short (cond b x y)
 either true x y p q = p
 either false x y p q = q
 

@@ -53,10 +53,10 @@ module _ (w : ℕ) where
   d-fits q h (is1 e) = rw e h
   d-fits q h (is0 e) = rw e (omega arith)
 
-digit-of : (n w : ℕ) → Digit (w / 2 ^ n % 2)
+pub digit-of : (n w : ℕ) → Digit (w / 2 ^ n % 2)
 digit-of n w = digit (w / 2 ^ n % 2) (mod-lt (w / 2 ^ n) (lit< tt))
 
-mark-plain : (kind : AccessType) (w : ℕ) → plain (markOf kind w) ≡ plain w
+pub mark-plain : (kind : AccessType) (w : ℕ) → plain (markOf kind w) ≡ plain w
 mark-plain Fetch w = a-plain w (digit-of 6 w)
 mark-plain Load w = a-plain w (digit-of 6 w)
 mark-plain Store w = d-plain (withBit 6 w) (digit-of 7 (withBit 6 w)) ∙ a-plain w (digit-of 6 w)
