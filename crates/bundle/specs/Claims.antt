@@ -10,12 +10,12 @@ use Rattle.scheme.specs.declared.refusal.Said.the-variants.{Granted}
 use Rattle.entry.specs.Entry.{policyNumber}
 use Rattle.plan.specs.Map.{flag, flagsOf}
 use Rattle.layout.specs.Layout.{byteAt, goodOf}
-use Rattle.bundle.specs.declared.Settings.{Settings}
+use Rattle.session.specs.declared.Settings.{Settings}
 use Rattle.bundle.specs.declared.MapBody.{MapBody}
 use Rattle.bundle.specs.declared.MapPart.the-variants.{Map}
 use Rattle.bundle.specs.declared.Parts.{Parts}
-use Rattle.bundle.specs.declared.Event.{Event}
-use Rattle.bundle.specs.declared.Event.the-variants.{Translate, Flush, FlushAt}
+use Rattle.session.specs.declared.Event.{Event}
+use Rattle.session.specs.declared.Event.the-variants.{Translate, Flush, FlushAt}
 use Rattle.bundle.specs.Codes.{accessNumber, modeNumber, ruleNumber, kindNumber, mibNumber}
 use Rattle.bundle.specs.Parts.{eventAt, partsOf, readOf}
 
@@ -40,7 +40,7 @@ switchNumber t = flag 0 (t .enabled) + flag 1 (t .force) + flag 2 (t .«tlb_on»
 abbrev pub SettingsAsGiven : Type 0
 SettingsAsGiven =
     (s : List ℕ) → goodOf s ≡ true
-    → (policyNumber (partsOf s .settings .config .replacement) ≡ byteAt s 61)
+    → (policyNumber (partsOf s .config .replacement) ≡ byteAt s 61)
     × (switchNumber (partsOf s .settings) ≡ byteAt s 64)
 
 -- the numbers of a map, its flags with a leaf's V added

@@ -13,14 +13,14 @@ use Rattle.scheme.specs.declared.refusal.Said.the-variants.{Granted, Refused}
 use Rattle.entry.specs.Geometry.{defaultConfig}
 use Rattle.entry.specs.declared.TlbConfig.{TlbConfig}
 use Rattle.layout.specs.Layout.{byteAt, mapLen, ramLen, accessLen, bodiesAt, mapAt, ramAt, firstAt, goodOf}
-use Rattle.bundle.specs.declared.Settings.{Settings}
+use Rattle.session.specs.declared.Settings.{Settings}
 use Rattle.bundle.specs.declared.MapBody.{MapBody}
 use Rattle.bundle.specs.declared.MapPart.{MapPart}
 use Rattle.bundle.specs.declared.MapPart.the-variants.{None, Map}
 use Rattle.bundle.specs.declared.Parts.{Parts}
 use Rattle.bundle.specs.declared.Reading.{Reading}
-use Rattle.bundle.specs.declared.Event.{Event}
-use Rattle.bundle.specs.declared.Event.the-variants.{Translate, Flush, FlushAt}
+use Rattle.session.specs.declared.Event.{Event}
+use Rattle.session.specs.declared.Event.the-variants.{Translate, Flush, FlushAt}
 use Rattle.bundle.specs.Codes.{policyOf, accessOf, modeOf, ruleOf, kindOf}
 
 -- ---- the settings
@@ -45,12 +45,11 @@ configAt s p =
       «miss_penalty» = byteAt s (p + 5);
     }
 
--- the two, then "switches (1 enabled, 2 force, 4 TLB on; no others), three zeros, u32 satp"
+-- the scheme, and after the configuration "switches (1 enabled, 2 force, 4 TLB on; no others), three zeros, u32 satp"
 abbrev pub settingsAt : List ℕ → ℕ → Settings
 settingsAt s p =
     record {
       scheme = schemeAt s p;
-      config = configAt s (p + 6);
       enabled = bit 0 (byteAt s (p + 12));
       force = bit 1 (byteAt s (p + 12));
       «tlb_on» = bit 2 (byteAt s (p + 12));
@@ -97,6 +96,7 @@ eventAt s p = eventOf (leAt 4 s p) (byteAt s (p + 4)) (byteAt s (p + 5)) (byteAt
 unfoldable pub partsOf : List ℕ → Parts
 partsOf s =
     record {
+      config = configAt s (bodiesAt 4 + 6);
       settings = settingsAt s (bodiesAt 4);
       map = mapPartAt s (mapAt 4) (mapLen s);
       «ram_start» = ramAt 4 s;
@@ -109,10 +109,10 @@ partsOf s =
 abbrev pub noParts : Parts
 noParts =
     record {
+      config = defaultConfig;
       settings =
           record {
             scheme = sv32Scheme;
-            config = defaultConfig;
             enabled = false;
             force = false;
             «tlb_on» = true;

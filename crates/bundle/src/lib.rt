@@ -10,6 +10,8 @@ use pte::Pte;
 use scheme::PagingScheme;
 use scheme::Refusal;
 use scheme::Said;
+use session::Event;
+use session::Settings;
 use walk::Access;
 ghost use mathlib.Core.Path.{_≡_};
 ghost use mathlib.Core.Bool.{true};
@@ -19,15 +21,6 @@ ghost use Rattle.layout.specs.Layout.{goodOf};
 ghost use Rattle.bundle.specs.Parts.{schemeAt, configAt, settingsAt, bodyAt, mapPartAt, eventAt, partsOf, noParts, readOf};
 
 mod codes;
-
-pub struct Settings {
-    pub scheme: PagingScheme,
-    pub config: TlbConfig,
-    pub enabled: bool,
-    pub force: bool,
-    pub tlb_on: bool,
-    pub satp: u32,
-}
 
 pub struct MapBody {
     pub spec: PageMapSpec,
@@ -42,6 +35,7 @@ pub enum MapPart {
 
 // RAM is the `ram_len` bytes from `ram_start`, and the accesses are `count` records of 8 bytes from `first`.
 pub struct Parts {
+    pub config: TlbConfig,
     pub settings: Settings,
     pub map: MapPart,
     pub ram_start: usize,
@@ -54,13 +48,6 @@ pub struct Parts {
 pub struct Reading {
     pub said: Said,
     pub parts: Parts,
-}
-
-// What one record asks for.
-pub enum Event {
-    Translate(Access),
-    Flush,
-    FlushAt(u32),
 }
 
 fn scheme_at(file: &[u8], at: usize) -> PagingScheme
@@ -97,12 +84,10 @@ fn settings_at(file: &[u8], at: usize) -> Settings
     ensures { λ r. ⌜ r ≡ settingsAt (now (file .entry)) at ⌝ }
 {
     let scheme = scheme_at(file, at);
-    let config = config_at(file, at + 6);
     let switches = file[at + 12];
     let satp = u32_at(file, at + 16);
     Settings {
         scheme,
-        config,
         enabled: switches & 0x1 != 0,
         force: switches & 0x2 != 0,
         tlb_on: switches & 0x4 != 0,
@@ -155,6 +140,7 @@ fn parts_of(file: &[u8]) -> Parts
     requires { ⌜ goodOf (now file) ≡ true ⌝ }
     ensures { λ r. ⌜ r ≡ partsOf (now (file .entry)) ⌝ }
 {
+    let config = config_at(file, 58);
     let settings = settings_at(file, 52);
     let map_len = len_at(file, 1);
     let map = map_at(file, 72, map_len);
@@ -163,6 +149,7 @@ fn parts_of(file: &[u8]) -> Parts
     let first = ram_start + ram_len;
     let count = len_at(file, 3) / 8;
     Parts {
+        config,
         settings,
         map,
         ram_start,
@@ -179,7 +166,6 @@ fn no_parts() -> Parts
     let config = entry::default_config();
     let settings = Settings {
         scheme,
-        config,
         enabled: false,
         force: false,
         tlb_on: true,
@@ -187,6 +173,7 @@ fn no_parts() -> Parts
     };
     let map = MapPart::None;
     Parts {
+        config,
         settings,
         map,
         ram_start: 0,

@@ -59,7 +59,7 @@ abbrev pub installSaid : PagingScheme → PageMapSpec → Window → ℕ → Lis
 installSaid s m win root ram = refusalOf s m win root (length ram)
 
 -- "A refusal returns its number .. and RAM as it was"
-unfoldable pub onGrant : Said → List ℕ → List ℕ → List ℕ
+unfoldable pub onGrant : {A : Type 0} → Said → A → A → A
 onGrant Granted new old = new
 onGrant (Refused why) new old = old
 

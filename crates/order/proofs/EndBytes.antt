@@ -21,7 +21,7 @@ use Rattle.walk.proofs.Judged.{leaf-read}
 use Rattle.walks.specs.Plain.{plain}
 use Rattle.walks.proofs.Marks.{mark-plain}
 use Rattle.access.specs.Translate.{isStore}
-use Rattle.order.specs.Runs.{Settings}
+use Rattle.session.specs.declared.Settings.{Settings}
 use Rattle.order.specs.Plain.{passes, plainWalk, pageAt, earnsA, earnsD, someOf}
 use Rattle.order.specs.Claims.{EndBytes}
 use Rattle.order.proofs.Marks.{byteMarked, mark-a, mark-d}

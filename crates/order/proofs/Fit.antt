@@ -19,7 +19,10 @@ use Rattle.access.specs.Translate.{tallied, madeOf, missWalk}
 use Rattle.mmu.specs.Calls.{flushOf, flushVaddrOf}
 use Rattle.state.specs.declared.Mmu.{Mmu}
 use Rattle.access.specs.declared.Served.{Served}
-use Rattle.order.specs.Runs.{settingsOf, Event, Do, FlushAll, FlushAt, stateAfter, ramAfter, endState, outcomeRefusals, refusedBy, refusals}
+use Rattle.session.specs.Session.{stepMmu, stepRam, endMmu}
+use Rattle.session.specs.declared.Event.{Event}
+use Rattle.session.specs.declared.Event.the-variants.{Translate, Flush, FlushAt}
+use Rattle.order.specs.Runs.{settingsOf, outcomeRefusals, refusedBy, refusals}
 use Rattle.order.proofs.Pages.{shift-within}
 use Rattle.order.proofs.Serves.{fit-valid, tlb-fits, fit-held, filled, Case, Passes, Hits, Forbids, Leads, Ends, translate-case}
 
@@ -100,23 +103,21 @@ module _ (m : Mmu) (fit : fitOf m ≡ true) where
   flushed-at va = rw fit
 
   module _ (ram : List ℕ) where
-    pub event-fit : (e : Event) → fitOf (stateAfter e m ram) ≡ true
-    unfolding stateAfter
-    event-fit (Do q) = case-fit q ram _ _ (translate-case m q ram fit)
-    event-fit FlushAll = rw flushed (fit-with _ (sits-same m _ _ sits-self (flush-same (m .tlb)) (flush-fits (m .tlb) (tlb-fits m fit))))
+    pub event-fit : (e : Event) → fitOf (stepMmu e m ram) ≡ true
+    event-fit (Translate q) = case-fit q ram _ _ (translate-case m q ram fit)
+    event-fit Flush = rw flushed (fit-with _ (sits-same m _ _ sits-self (flush-same (m .tlb)) (flush-fits (m .tlb) (tlb-fits m fit))))
     event-fit (FlushAt va) =
         rw (flushed-at va) (fit-with _ (sits-same m _ _ sits-self (flush-vaddr-same (m .tlb) va) (flush-vaddr-fits (m .tlb) va (tlb-fits m fit))))
 
-    pub event-settings : (e : Event) → settingsOf (stateAfter e m ram) ≡ settingsOf m
-    unfolding stateAfter
-    event-settings (Do q) = case-settings q ram _ _ (translate-case m q ram fit)
-    event-settings FlushAll = rw flushed
+    pub event-settings : (e : Event) → settingsOf (stepMmu e m ram) ≡ settingsOf m
+    event-settings (Translate q) = case-settings q ram _ _ (translate-case m q ram fit)
+    event-settings Flush = rw flushed
     event-settings (FlushAt va) = rw (flushed-at va)
 
     event-granted : (e : Event) (rest : List Refusal) → refusedBy e m ram rest ≡ rest
     unfolding refusedBy flushOf flushVaddrOf
-    event-granted (Do q) rest = case-granted q ram _ _ (translate-case m q ram fit) rest
-    event-granted FlushAll rest = rw fit
+    event-granted (Translate q) rest = case-granted q ram _ _ (translate-case m q ram fit) rest
+    event-granted Flush rest = rw fit
     event-granted (FlushAt va) rest = rw fit
 
 -- ---- a run
@@ -124,9 +125,9 @@ module _ (m : Mmu) (fit : fitOf m ≡ true) where
 pub run-granted : (es : List Event) (m : Mmu) (ram : List ℕ) → fitOf m ≡ true → refusals es m ram ≡ []
 unfolding refusals
 run-granted [] m ram fit = refl
-run-granted (e ∷ es) m ram fit = event-granted m fit ram e _ ∙ run-granted es (stateAfter e m ram) (ramAfter e m ram) (event-fit m fit ram e)
+run-granted (e ∷ es) m ram fit = event-granted m fit ram e _ ∙ run-granted es (stepMmu e m ram) (stepRam e m ram) (event-fit m fit ram e)
 
-pub run-fit : (es : List Event) (m : Mmu) (ram : List ℕ) → fitOf m ≡ true → fitOf (endState es m ram) ≡ true
-unfolding endState
+pub run-fit : (es : List Event) (m : Mmu) (ram : List ℕ) → fitOf m ≡ true → fitOf (endMmu es m ram) ≡ true
+unfolding endMmu
 run-fit [] m ram fit = fit
-run-fit (e ∷ es) m ram fit = run-fit es (stateAfter e m ram) (ramAfter e m ram) (event-fit m fit ram e)
+run-fit (e ∷ es) m ram fit = run-fit es (stepMmu e m ram) (stepRam e m ram) (event-fit m fit ram e)

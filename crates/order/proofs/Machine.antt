@@ -16,7 +16,8 @@ use Rattle.walk.specs.declared.Verdict.{Verdict}
 use Rattle.walk.specs.declared.Verdict.the-variants.{Page, Fault}
 use Rattle.caches.specs.Terms.{Said}
 use Rattle.access.specs.Translate.{isStore}
-use Rattle.order.specs.Runs.{Settings, Heard, At, Faults}
+use Rattle.session.specs.declared.Settings.{Settings}
+use Rattle.order.specs.Runs.{Heard, At, Faults}
 use Rattle.order.specs.Plain.{passes, plainWalk, verdictHeard}
 
 module _ (s : Settings) where

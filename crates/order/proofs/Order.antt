@@ -12,7 +12,11 @@ use Rattle.entry.specs.declared.TlbConfig.{TlbConfig}
 use Rattle.state.specs.State.{fitOf}
 use Rattle.mmu.specs.Calls.{roomFor, translateOf, translateRam}
 use Rattle.state.specs.declared.Mmu.{Mmu}
-use Rattle.order.specs.Runs.{Settings, settingsOf, startOf, Event, Do, FlushAll, FlushAt, accesses, stateAfter, ramAfter, endRam, heardOf, answers}
+use Rattle.session.specs.Session.{startOf, stepMmu, stepRam, endRam}
+use Rattle.session.specs.declared.Settings.{Settings}
+use Rattle.session.specs.declared.Event.{Event}
+use Rattle.session.specs.declared.Event.the-variants.{Translate, Flush, FlushAt}
+use Rattle.order.specs.Runs.{settingsOf, accesses, heardOf, answers}
 use Rattle.order.specs.Plain.{passes, plainWalk, plainAnswer, earned, allMarks}
 use Rattle.order.specs.Claims.{Ready, PlainRun, AnyOrder}
 use Rattle.order.proofs.Machine.{Step}
@@ -72,28 +76,27 @@ module _ (s : Settings) (start : List ℕ) where
         (subst (λ (x : Settings). Step x HoldsIn q m ram (translateOf m q ram .mmu) (translateRam m q ram) (heardOf (translateOf m q ram .said .outcome)))
         (g .settings) (translate-steps m q ram (g .fit)))
 
-    good-sound : (e : Event) → Sound s start HoldsIn holds-imp (stateAfter e m ram) (ramAfter e m ram)
-    unfolding stateAfter ramAfter
-    good-sound (Do q) = right q .sound
-    good-sound FlushAll = record { steady = g .sound .steady; truth = flush-keeps m (g .fit) (Truth s start ram) (g .sound .truth) }
+    good-sound : (e : Event) → Sound s start HoldsIn holds-imp (stepMmu e m ram) (stepRam e m ram)
+    good-sound (Translate q) = right q .sound
+    good-sound Flush = record { steady = g .sound .steady; truth = flush-keeps m (g .fit) (Truth s start ram) (g .sound .truth) }
     good-sound (FlushAt va) = record { steady = g .sound .steady; truth = flush-at-keeps m (g .fit) (Truth s start ram) (g .sound .truth) va }
 
-    good-after : (e : Event) → Good (stateAfter e m ram) (ramAfter e m ram)
+    good-after : (e : Event) → Good (stepMmu e m ram) (stepRam e m ram)
     good-after e = record { fit = event-fit m (g .fit) ram e; settings = event-settings m (g .fit) ram e ∙ g .settings; sound = good-sound e }
 
   answers-plain : (es : List Event) (m : Mmu) (ram : List ℕ) → Good m ram → answers es m ram ≡ map (plainAnswer s start) (accesses es)
   unfolding answers accesses
   answers-plain [] m ram g = refl
-  answers-plain (Do q ∷ es) m ram g = ap₂ _∷_ (right m ram g q .answer) (answers-plain es _ _ (good-after m ram g (Do q)))
-  answers-plain (FlushAll ∷ es) m ram g = answers-plain es _ _ (good-after m ram g FlushAll)
+  answers-plain (Translate q ∷ es) m ram g = ap₂ _∷_ (right m ram g q .answer) (answers-plain es _ _ (good-after m ram g (Translate q)))
+  answers-plain (Flush ∷ es) m ram g = answers-plain es _ _ (good-after m ram g Flush)
   answers-plain (FlushAt va ∷ es) m ram g = answers-plain es _ _ (good-after m ram g (FlushAt va))
 
   ends-marked : (es : List Event) (m : Mmu) (ram : List ℕ) → Good m ram → endRam es m ram ≡ byteAll (accesses es) ram
-  unfolding endRam accesses byteAll ramAfter
+  unfolding endRam accesses byteAll
   ends-marked [] m ram g = refl
-  ends-marked (Do q ∷ es) m ram g =
-      ends-marked es _ _ (good-after m ram g (Do q)) ∙ ap (byteAll (accesses es)) (right m ram g q .marks)
-  ends-marked (FlushAll ∷ es) m ram g = ends-marked es _ _ (good-after m ram g FlushAll)
+  ends-marked (Translate q ∷ es) m ram g =
+      ends-marked es _ _ (good-after m ram g (Translate q)) ∙ ap (byteAll (accesses es)) (right m ram g q .marks)
+  ends-marked (Flush ∷ es) m ram g = ends-marked es _ _ (good-after m ram g Flush)
   ends-marked (FlushAt va ∷ es) m ram g = ends-marked es _ _ (good-after m ram g (FlushAt va))
 
   -- ---- from an empty cache
@@ -102,10 +105,10 @@ module _ (s : Settings) (start : List ℕ) where
     good-start : (config : TlbConfig) → roomFor config ≡ true → Good (startOf config s) start
     good-start config room = record {
       fit = start-fit s config ready room;
-      settings = start-settings s config;
+      settings = start-settings s config ready room;
       sound = record {
         steady = record { bytes = small; same = record { long = refl; words = λ a d. refl } };
-        truth = start-holds s config (Truth s start start);
+        truth = start-holds s config ready room (Truth s start start);
       };
     }
 

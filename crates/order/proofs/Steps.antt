@@ -9,7 +9,7 @@ use lib.ListN.{length}
 use lib.Seq.{length-take-le, take-at}
 use borrow.Author.Tests.{leb-true, eqb-true, eq-eqb}
 use Rattle.scheme.specs.Satp.{asidOf}
-use Rattle.scheme.specs.Scheme.{widthsOf, classes, padded}
+use Rattle.scheme.specs.Scheme.{total, okWidths, validOf, widthsOf, classes, padded}
 use Rattle.bits.proofs.Bools.{and-right}
 use Rattle.scheme.proofs.Widths.{valid}
 use Rattle.scheme.proofs.Classes.{length-classes}
@@ -28,10 +28,12 @@ use Rattle.caches.specs.Terms.{Said, saidBy, Holds, EntryOf}
 use Rattle.caches.proofs.Claims.{new-fits, scheme-fits, new-holds, scheme-holds, install-holds, flush-holds, flush-vaddr-holds}
 use Rattle.state.specs.State.{withTlb, stateNew, withScheme, alike, fitOf}
 use Rattle.access.specs.Translate.{tallied, vpnOf, madeOf}
-use Rattle.mmu.specs.Calls.{roomFor, flushOf, flushVaddrOf, translateOf, translateRam}
+use Rattle.mmu.specs.Calls.{roomFor, newOf, setSchemeOf, flushOf, flushVaddrOf, translateOf, translateRam}
 use Rattle.state.specs.declared.Mmu.{Mmu}
 use Rattle.access.specs.declared.Served.{Served}
-use Rattle.order.specs.Runs.{Settings, settingsOf, startOf, heardOf}
+use Rattle.session.specs.Session.{switched, startOf}
+use Rattle.session.specs.declared.Settings.{Settings}
+use Rattle.order.specs.Runs.{settingsOf, heardOf}
 use Rattle.order.specs.Plain.{verdictHeard}
 use Rattle.order.specs.Claims.{Ready}
 use Rattle.order.proofs.Machine.{Decides, Left, Step}
@@ -58,23 +60,34 @@ unfolding alike
 alike-self [] = refl
 alike-self (x ∷ xs) = rw (eq-eqb x x refl) (alike-self xs)
 
-module _ (s : Settings) (config : TlbConfig) where
+-- a new state is fit, if its entries have room
+new-fit : (config : TlbConfig) → roomFor config ≡ true → fitOf (stateNew config) ≡ true
+unfolding fitOf stateNew tlbNew validOf okWidths total classes alike
+new-fit config room = rw (new-fits config (leb-true _ 128 room))
+
+module _ (s : Settings) (config : TlbConfig) (r : Ready s) (room : roomFor config ≡ true) where
+  -- nothing of the set-up is refused
+  start-is : startOf config s ≡ switched (withScheme (stateNew config) (s .scheme)) s
+  unfolding startOf newOf setSchemeOf
+  start-is = rw (room, new-fit config room, r .valid)
+
   pub start-settings : settingsOf (startOf config s) ≡ s
-  unfolding startOf withScheme
-  start-settings = refl
+  unfolding withScheme
+  start-settings = rw start-is
 
   pub start-holds : (P : Said → Type 0) → HoldsIn P (startOf config s)
-  unfolding startOf withScheme stateNew
-  start-holds P = scheme-holds P (tlbNew config) _ _ _ (new-holds P config)
+  unfolding withScheme stateNew
+  start-holds P = rw start-is (scheme-holds P (tlbNew config) _ _ _ (new-holds P config))
 
-  pub start-fit : Ready s → roomFor config ≡ true → fitOf (startOf config s) ≡ true
-  unfolding fitOf startOf withScheme stateNew tlbSetScheme
-  start-fit r room =
+  pub start-fit : fitOf (startOf config s) ≡ true
+  unfolding fitOf withScheme stateNew tlbSetScheme
+  start-fit =
       let sch = s .scheme in
       let ws = widthsOf sch in
       let few : sch .levels ≤ length (sch .«level_bits») = rw (r .four) (valid sch (r .valid) .four) in
       let long : length (classes ws) ≡ sch .levels = length-classes ws ∙ length-take-le (sch .levels) (sch .«level_bits») few in
       rw (
+        start-is,
         r .valid,
         scheme-fits (tlbNew config) (sch .«offset_bits») (padded (classes ws)) (sch .levels) (new-fits config (leb-true _ 128 room)),
         eq-eqb (sch .«offset_bits») (sch .«offset_bits») refl,

@@ -24,7 +24,9 @@ use Rattle.access.specs.Translate.{bypassed, tallied, consultOf, madeOf, missWa
 use Rattle.state.specs.declared.Mmu.{Mmu}
 use Rattle.access.specs.declared.Consulted.{Consulted}
 use Rattle.access.specs.declared.Served.{Served}
-use Rattle.order.specs.Runs.{Event, Do, FlushAll, FlushAt, stateAfter, ramAfter, endState}
+use Rattle.session.specs.Session.{stepMmu, stepRam, endMmu}
+use Rattle.session.specs.declared.Event.{Event}
+use Rattle.session.specs.declared.Event.the-variants.{Translate, Flush, FlushAt}
 use Rattle.order.specs.Tallies.{countOf, translated, forbids, foundFault, isAbsent, walks, isFault, walkFault, isNothing, takesVictim, leafVictim, evicts}
 use Rattle.order.specs.Claims.{Wraps, TalliesAddUp}
 use Rattle.order.proofs.Serves.{Consults, filled, Case, Passes, Hits, Forbids, Leads, Ends, translate-case}
@@ -216,13 +218,13 @@ flush-at-stats t va = refl
 record Sums (st : TlbStats) (es : List Event) (m : Mmu) (ram : List ℕ) : Type 0 where
   accesses :
       Wraps
-      (endState es m ram .tlb .stats .hits + endState es m ram .tlb .stats .misses + countOf foundFault es m ram)
+      (endMmu es m ram .tlb .stats .hits + endMmu es m ram .tlb .stats .misses + countOf foundFault es m ram)
       (st .hits + st .misses + countOf translated es m ram)
-  faults : Wraps (endState es m ram .tlb .stats .«page_faults») (st .«page_faults» + countOf foundFault es m ram + countOf walkFault es m ram)
-  evictions : Wraps (endState es m ram .tlb .stats .evictions) (st .evictions + countOf evicts es m ram)
+  faults : Wraps (endMmu es m ram .tlb .stats .«page_faults») (st .«page_faults» + countOf foundFault es m ram + countOf walkFault es m ram)
+  evictions : Wraps (endMmu es m ram .tlb .stats .evictions) (st .evictions + countOf evicts es m ram)
 
 sums : (es : List Event) (m : Mmu) (ram : List ℕ) → fitOf m ≡ true → Sums (m .tlb .stats) es m ram
-unfolding endState countOf stateAfter
+unfolding endMmu countOf
 sums [] m ram fit =
     let st = m .tlb .stats in
     record {
@@ -230,28 +232,28 @@ sums [] m ram fit =
       faults = wraps-is (st .«page_faults») (st .«page_faults» + 0 + 0) (omega arith);
       evictions = wraps-none (st .evictions);
     }
-sums (Do q ∷ es) m ram fit =
-    let m′ = stateAfter (Do q) m ram in
-    let ram′ = ramAfter (Do q) m ram in
+sums (Translate q ∷ es) m ram fit =
+    let m′ = stepMmu (Translate q) m ram in
+    let ram′ = stepRam (Translate q) m ram in
     let st = m .tlb .stats in
     let st′ = m′ .tlb .stats in
-    let end = endState es m′ ram′ .tlb .stats in
+    let end = endMmu es m′ ram′ .tlb .stats in
     let a = case-adds m q ram fit _ _ (translate-case m q ram fit) in
-    let r = sums es m′ ram′ (event-fit m fit ram (Do q)) in
+    let r = sums es m′ ram′ (event-fit m fit ram (Translate q)) in
     record {
       accesses = then-accesses (end .hits + end .misses) _ (st′ .hits + st′ .misses) _ _ (st .hits + st .misses) _ (r .accesses) (a .accesses);
       faults = then-faults (end .«page_faults») (st′ .«page_faults») _ _ (st .«page_faults») _ _ (r .faults) (a .faults);
       evictions = then-counts (end .evictions) (st′ .evictions) _ (st .evictions) _ (r .evictions) (a .evictions);
     }
-sums (FlushAll ∷ es) m ram fit =
-    let m′ = stateAfter FlushAll m ram in
+sums (Flush ∷ es) m ram fit =
+    let m′ = stepMmu Flush m ram in
     let same : m′ .tlb .stats ≡ m .tlb .stats = ap (λ (x : Mmu). x .tlb .stats) (flushed m fit) ∙ flush-stats (m .tlb) in
-    let r = subst (λ (st : TlbStats). Sums st es m′ (ramAfter FlushAll m ram)) same (sums es m′ _ (event-fit m fit ram FlushAll)) in
+    let r = subst (λ (st : TlbStats). Sums st es m′ (stepRam Flush m ram)) same (sums es m′ _ (event-fit m fit ram Flush)) in
     record { accesses = r .accesses; faults = r .faults; evictions = r .evictions }
 sums (FlushAt va ∷ es) m ram fit =
-    let m′ = stateAfter (FlushAt va) m ram in
+    let m′ = stepMmu (FlushAt va) m ram in
     let same : m′ .tlb .stats ≡ m .tlb .stats = ap (λ (x : Mmu). x .tlb .stats) (flushed-at m fit va) ∙ flush-at-stats (m .tlb) va in
-    let r = subst (λ (st : TlbStats). Sums st es m′ (ramAfter (FlushAt va) m ram)) same (sums es m′ _ (event-fit m fit ram (FlushAt va))) in
+    let r = subst (λ (st : TlbStats). Sums st es m′ (stepRam (FlushAt va) m ram)) same (sums es m′ _ (event-fit m fit ram (FlushAt va))) in
     record { accesses = r .accesses; faults = r .faults; evictions = r .evictions }
 
 pub add-up : TalliesAddUp

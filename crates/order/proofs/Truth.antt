@@ -23,7 +23,8 @@ use Rattle.walks.proofs.Steady.{Same}
 use Rattle.walks.proofs.Marks.{walk-same}
 use Rattle.walks.proofs.Claims.{ours-is-sound}
 use Rattle.caches.specs.Terms.{Said}
-use Rattle.order.specs.Runs.{Settings, Heard, At, Faults}
+use Rattle.session.specs.declared.Settings.{Settings}
+use Rattle.order.specs.Runs.{Heard, At, Faults}
 use Rattle.order.specs.Plain.{passes, plainWalk, verdictHeard, plainAnswer}
 use Rattle.order.proofs.Machine.{pageOf, madeBy, toldBy, Decides, Keeps, Left, Step, Passes, Finds, Walks}
 use Rattle.order.proofs.Pages.{byteMarks, marks-comm, marks-bytes, heard-same, marks-same, walk-alike, walk-marks, leaf-heard, leaf-rests, offset-below, same-leaf}

@@ -17,7 +17,10 @@ use Rattle.entry.specs.declared.TlbConfig.{TlbConfig}
 use Rattle.state.specs.State.{fitOf}
 use Rattle.mmu.specs.Calls.{roomFor}
 use Rattle.state.specs.declared.Mmu.{Mmu}
-use Rattle.order.specs.Runs.{Settings, startOf, Event, accesses, endState, endRam, answers, refusals}
+use Rattle.session.specs.Session.{startOf, endMmu, endRam}
+use Rattle.session.specs.declared.Settings.{Settings}
+use Rattle.session.specs.declared.Event.{Event}
+use Rattle.order.specs.Runs.{accesses, answers, refusals}
 use Rattle.order.specs.Plain.{plainAnswer, allMarks, earnsA, earnsD, someOf}
 use Rattle.order.specs.Tallies.{countOf, translated, foundFault, walkFault, evicts}
 
@@ -58,7 +61,7 @@ EndBytes =
 abbrev pub NeverRefused : Type 0
 NeverRefused =
     (es : List Event) (m : Mmu) (ram : List ℕ) → fitOf m ≡ true
-    → (refusals es m ram ≡ []) × (fitOf (endState es m ram) ≡ true)
+    → (refusals es m ram ≡ []) × (fitOf (endMmu es m ram) ≡ true)
 
 -- "Tallies wrap at 2^64"
 abbrev pub Wraps : ℕ → ℕ → Type 0
@@ -69,17 +72,17 @@ pub record Tallied (es : List Event) (m : Mmu) (ram : List ℕ) : Type 0 where
   -- "Hits plus misses plus faults on a found entry equal the accesses neither bypassed nor refused since the tallies were 0, mod 2^64."
   pub accesses :
       Wraps
-      (endState es m ram .tlb .stats .hits + endState es m ram .tlb .stats .misses + countOf foundFault es m ram)
+      (endMmu es m ram .tlb .stats .hits + endMmu es m ram .tlb .stats .misses + countOf foundFault es m ram)
       (countOf translated es m ram)
   -- "a found entry that forbids the access .. is a page fault", "a faulting walk adds a page fault"
   pub faults :
       Wraps
-      (endState es m ram .tlb .stats .«page_faults»)
+      (endMmu es m ram .tlb .stats .«page_faults»)
       (m .tlb .stats .«page_faults» + countOf foundFault es m ram + countOf walkFault es m ram)
   -- "else a victim, and then one eviction is counted"
   pub evictions :
       Wraps
-      (endState es m ram .tlb .stats .evictions)
+      (endMmu es m ram .tlb .stats .evictions)
       (m .tlb .stats .evictions + countOf evicts es m ram)
 
 abbrev pub TalliesAddUp : Type 0

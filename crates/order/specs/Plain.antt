@@ -14,7 +14,8 @@ use Rattle.walk.specs.declared.Access.{Access}
 use Rattle.walk.specs.declared.Verdict.{Verdict}
 use Rattle.walk.specs.declared.Verdict.the-variants.{Page, Fault}
 use Rattle.access.specs.Translate.{isStore, passesWith}
-use Rattle.order.specs.Runs.{Settings, Heard, At, Faults}
+use Rattle.session.specs.declared.Settings.{Settings}
+use Rattle.order.specs.Runs.{Heard, At, Faults}
 
 -- "not enabled, or Bare, or machine mode without `force_translate`"
 abbrev pub passes : Settings → Access → Bool

@@ -17,14 +17,16 @@ use Rattle.tlb.specs.declared.Lookup.the-variants.{Found, Absent}
 use Rattle.state.specs.State.{fitOf}
 use Rattle.access.specs.Translate.{bypassed, consultOf, entryPermits, missWalk, madeOf}
 use Rattle.state.specs.declared.Mmu.{Mmu}
-use Rattle.order.specs.Runs.{Event, Do, FlushAll, FlushAt, stateAfter, ramAfter}
+use Rattle.session.specs.Session.{stepMmu, stepRam}
+use Rattle.session.specs.declared.Event.{Event}
+use Rattle.session.specs.declared.Event.the-variants.{Translate, Flush, FlushAt}
 
 -- how many accesses of a run pass a test of the state, the access and the RAM
 unfoldable pub countOf : (Mmu → Access → List ℕ → Bool) → List Event → Mmu → List ℕ → ℕ
 countOf f [] m ram = 0
-countOf f (Do q ∷ es) m ram = cond (f m q ram) 1 0 + countOf f es (stateAfter (Do q) m ram) (ramAfter (Do q) m ram)
-countOf f (FlushAll ∷ es) m ram = countOf f es (stateAfter FlushAll m ram) (ramAfter FlushAll m ram)
-countOf f (FlushAt va ∷ es) m ram = countOf f es (stateAfter (FlushAt va) m ram) (ramAfter (FlushAt va) m ram)
+countOf f (Translate q ∷ es) m ram = cond (f m q ram) 1 0 + countOf f es (stepMmu (Translate q) m ram) (stepRam (Translate q) m ram)
+countOf f (Flush ∷ es) m ram = countOf f es (stepMmu Flush m ram) (stepRam Flush m ram)
+countOf f (FlushAt va ∷ es) m ram = countOf f es (stepMmu (FlushAt va) m ram) (stepRam (FlushAt va) m ram)
 
 -- "accesses neither bypassed nor refused"
 unfoldable pub translated : Mmu → Access → List ℕ → Bool

@@ -1,23 +1,20 @@
 -- What the proofs of this crate share: how an answer picks a text or a RAM, the start of a buffer, and what was read.
 use mathlib.Core.Path.{_≡_, refl, ap, _∙_}
 use mathlib.Core.Bool.{Bool, true, false, cond, _||_}
-use mathlib.Core.List.{List, [], _++_}
+use mathlib.Core.List.{List, _++_}
 use Prim.Native.Nat.{ℕ, _+_, _-_, _*_, _≤_}
 use native.Mathlib.Omega.{arith}
 use lib.Dec.{ltb}
 use lib.ListN.{length, take, drop, length-drop}
 use lib.Seq.{sets, sets-eq, take-at, drop-at, length-take-le}
 use borrow.Author.Tests.{ltb-false}
-use Rattle.scheme.specs.Scheme.{validOf}
 use Rattle.scheme.specs.declared.PagingScheme.{PagingScheme}
 use Rattle.scheme.specs.declared.refusal.Refusal.{Refusal}
-use Rattle.scheme.specs.declared.refusal.Refusal.the-variants.{BadScheme, BadLayout}
+use Rattle.scheme.specs.declared.refusal.Refusal.the-variants.{BadLayout}
 use Rattle.scheme.specs.declared.refusal.Said.{Said}
 use Rattle.scheme.specs.declared.refusal.Said.the-variants.{Granted, Refused}
-use Rattle.mmu.specs.Calls.{newOf}
-use Rattle.installer.specs.Install.{refuseIf, onGrant, installRam}
+use Rattle.installer.specs.Install.{onGrant, installRam}
 use Rattle.layout.specs.Layout.{goodOf}
-use Rattle.bundle.specs.declared.Settings.{Settings}
 use Rattle.bundle.specs.declared.MapPart.{MapPart}
 use Rattle.bundle.specs.declared.MapPart.the-variants.{None, Map}
 use Rattle.bundle.specs.declared.Parts.{Parts}
@@ -28,12 +25,12 @@ use Rattle.writer.specs.Put.{Put}
 use Rattle.writer.proofs.Puts.{kept}
 use Rattle.text.specs.Lines.{refusedLine}
 use Rattle.run.specs.declared.Ran.the-variants.{Wrote, TooShort}
-use Rattle.run.specs.Run.{settingsSaid, givenRam, mapSaid, mapRam, firstOf, printed, mapText, mapEnd, partsText, partsEnd, readText, readEnd, roomOf, refusalIn, outputOf, endRamOf, Within}
+use Rattle.run.specs.Run.{givenRam, mapSaid, mapRam, printed, roomOf, Within}
 
 -- ---- what an answer picks
 
 module _ {said : Said} {why : Refusal} (e : said ≡ Refused why) where
-  pub end-refused : (new old : List ℕ) → onGrant said new old ≡ old
+  pub end-refused : {A : Type 0} (new old : A) → onGrant said new old ≡ old
   unfolding onGrant
   end-refused new old = rw e
 
@@ -46,7 +43,7 @@ module _ {said : Said} {why : Refusal} (e : said ≡ Refused why) where
   room-refused n = rw e
 
 module _ {said : Said} (e : said ≡ Granted) where
-  pub end-granted : (new old : List ℕ) → onGrant said new old ≡ new
+  pub end-granted : {A : Type 0} (new old : A) → onGrant said new old ≡ new
   unfolding onGrant
   end-granted new old = rw e
 
@@ -63,15 +60,6 @@ pub refused-map : (s : PagingScheme) (map : MapPart) (ram : List ℕ) {why : Ref
 unfolding installRam
 refused-map s None ram e = let z : _≡_ {A = ℕ} 0 1 = cc in absurd (omega arith)
 refused-map s (Map b) ram e = end-refused e _ ram
-
-module _ (t : Settings) where
-  pub bad-scheme : validOf (t .scheme) ≡ false → Refused BadScheme ≡ settingsSaid t
-  unfolding settingsSaid refuseIf
-  bad-scheme e = rw e
-
-  pub good-scheme : validOf (t .scheme) ≡ true → newOf (t .config) .said ≡ settingsSaid t
-  unfolding settingsSaid refuseIf
-  good-scheme e = rw e
 
 -- ---- the start of a buffer
 
@@ -111,28 +99,6 @@ within-read s = go (goodOf s) refl
         record { ram = h .ram; accesses = omega (arith, h .accesses); few = h .accesses-most }
     go false e = record { ram = omega arith; accesses = omega arith; few = omega arith }
 
--- one refusal after another, as one
-three-texts : (a b c : Said) (xs : List ℕ) → printed a (printed b (printed c xs)) ≡ printed (firstOf a (firstOf b c)) xs
-unfolding printed firstOf
-three-texts (Refused why) b c xs = refl
-three-texts Granted (Refused why) c xs = refl
-three-texts Granted Granted c xs = refl
-
-three-ends : (a b c : Said) (xs ys : List ℕ) → onGrant a (onGrant b (onGrant c xs ys) []) [] ≡ onGrant (firstOf a b) (onGrant (firstOf a (firstOf b c)) xs ys) []
-unfolding onGrant firstOf
-three-ends (Refused why) b c xs ys = refl
-three-ends Granted (Refused why) c xs ys = refl
-three-ends Granted Granted c xs ys = refl
-
-module _ (s : List ℕ) where
-  pub whole-text : readText s (readOf s .said) (readOf s .parts) ≡ outputOf s
-  unfolding outputOf refusalIn readText partsText mapText
-  whole-text = three-texts (readOf s .said) (settingsSaid (readOf s .parts .settings)) _ _
-
-  pub whole-end : readEnd s (readOf s .said) (readOf s .parts) ≡ endRamOf s
-  unfolding endRamOf refusalIn readEnd partsEnd mapEnd
-  whole-end = three-ends (readOf s .said) (settingsSaid (readOf s .parts .settings)) _ _ _
-
 -- buffers that are long enough
 pub enough : (a b m n : ℕ) → ltb a b || ltb m n ≡ false → (b ≤ a) × (n ≤ m)
 enough a b m n e = go (ltb a b) refl e
@@ -142,8 +108,8 @@ enough a b m n e = go (ltb a b) refl e
     go true f e = let z : _≡_ {A = ℕ} 0 1 = cc in absurd (omega arith)
 
 -- the place after a text at the start of a buffer
-pub text-end : {most r : ℕ} {old new ys zs : List ℕ} → Put most old new 0 r ys → ys ≡ zs → r ≡ length zs
-text-end p e = omega (arith, p .next, ap length e)
+pub text-end : {most r : ℕ} {old new ys : List ℕ} → Put most old new 0 r ys → r ≡ length ys
+text-end p = omega (arith, p .next)
 
 -- a text lies in its buffer, and there is none where the buffer is too short
 pub text-within : {most r n : ℕ} {old new ys : List ℕ} → Put most old new 0 r ys → most ≤ length old → Wrote r ≡ Wrote n → n ≤ length new

@@ -13,7 +13,8 @@ use Rattle.writer.specs.Put.{Put}
 use Rattle.writer.proofs.Puts as Puts
 use Rattle.writer.proofs.Going as Going
 use Rattle.text.proofs.Numbers.{Short, either, served-short}
-use Rattle.steps.specs.Steps.{eventsFrom, stepMmu, stepRam, stepLine, endMmu, endRam, linesFrom}
+use Rattle.session.specs.Session.{stepMmu, stepRam, endMmu, endRam}
+use Rattle.steps.specs.Steps.{eventsFrom, stepLine, linesFrom}
 
 -- the cause that an answer tells is short, as `put_answer` asks
 pub translated-short : (m : Mmu) (q : Access) (ram : List ℕ) → Short (translateOf m q ram)

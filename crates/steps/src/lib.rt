@@ -1,16 +1,17 @@
 // Runs the accesses of a bundle, one after another: each changes the MMU and its RAM, and puts a line.
-use bundle::Event;
+use session::Event;
 use state::Mmu;
 ghost use mathlib.Core.Path.{_≡_};
 ghost use Prim.Native.Nat.{_+_, _*_, _≤_};
 ghost use lib.ListN.{length};
+ghost use Rattle.session.specs.Session.{stepMmu, stepRam, endMmu, endRam};
 ghost use Rattle.writer.specs.Put.{Put};
-ghost use Rattle.steps.specs.Steps.{eventsFrom, stepMmu, stepRam, stepLine, endMmu, endRam, linesFrom, textFrom};
+ghost use Rattle.steps.specs.Steps.{eventsFrom, stepLine, linesFrom, textFrom};
 
 // The state after some records, and the place after their lines.
-struct Stepped {
-    mmu: Mmu,
-    at: usize,
+pub struct Stepped {
+    pub mmu: Mmu,
+    pub at: usize,
 }
 
 // One record: its line is put at `at`.
@@ -78,14 +79,16 @@ pub fn run_all(
     m: Mmu,
     ram: &mut [u8],
     out: &mut [u8],
-) -> usize
+) -> Stepped
     requires { ⌜ (first + 8 * count ≤ length (now file)) × (25 * count + 113 ≤ length (now out)) ⌝ }
-    ensures { λ r. ⌜ (now (ram .exit) ≡ endRam (eventsFrom (now (file .entry)) first count) m (now (ram .entry)))
-        × Put (25 * count + 113) (now (out .entry)) (now (out .exit)) 0 r (textFrom (eventsFrom (now (file .entry)) first count) m (now (ram .entry))) ⌝ }
+    ensures { λ r. ⌜ (r .mmu ≡ endMmu (eventsFrom (now (file .entry)) first count) m (now (ram .entry)))
+        × (now (ram .exit) ≡ endRam (eventsFrom (now (file .entry)) first count) m (now (ram .entry)))
+        × Put (25 * count + 113) (now (out .entry)) (now (out .exit)) 0 (r .at) (textFrom (eventsFrom (now (file .entry)) first count) m (now (ram .entry))) ⌝ }
 {
     let done = run_records(file, first, count, m, ram, out);
-    let end = done.mmu;
-    let t = end.tlb;
+    let mmu = done.mmu;
+    let t = mmu.tlb;
     let stats = t.stats;
-    text::put_tallies(out, done.at, stats)
+    let at = text::put_tallies(out, done.at, stats);
+    Stepped { mmu, at }
 }

@@ -7,12 +7,6 @@ use Rattle.bundle.proofs.settings_at.Tie as tie
 scheme-at-requires : tie.Need-scheme-at-requires
 scheme-at-requires c κs = search needs
 
-add-config-at : tie.Need-add-config-at
-add-config-at c = search needs
-
-config-at-requires : tie.Need-config-at-requires
-config-at-requires c κs = search needs
-
 add-switches : tie.Need-add-switches
 add-switches c = search needs
 
@@ -28,8 +22,7 @@ u32-at-requires c κs = search needs
 returns : tie.Need-returns
 returns c =
     rw (
-      c .before .before .before .scheme-at .ensures,
-      c .before .before .config-at .ensures,
+      c .before .before .scheme-at .ensures,
       c .u32-at .ensures,
       test-bit 0,
       test-bit 1,
@@ -41,8 +34,6 @@ settings-at-spec =
     tie.close
     (tie.spec
     scheme-at-requires
-    add-config-at
-    config-at-requires
     add-switches
     shared-slice-read-switches
     add-u32-at

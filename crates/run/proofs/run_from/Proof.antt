@@ -60,8 +60,8 @@ returns c =
     let part : take len (b .put-bytes .last .0) ≡ given = ap (take len) (copied b) ∙ front-part xs given len long (s .pre .2) in
     let r = c .before .before .before .before .run-mapped in
     let same : length (r .last .1 .1 .1 .0) ≡ length (take len (b .put-bytes .last .0)) = search needs in
-    let end = rw part at (r .ensures .0) in
-    (rw (copied b) (front-other xs given (r .last .1 .1 .1 .0) len long (same ∙ ap length part ∙ long) (s .pre .2) ∙ ap (sets xs 0) end), rw part at (r .ensures .1))
+    let end = rw part at (r .ensures .1) in
+    (rw part at (r .ensures .0), rw (copied b) (front-other xs given (r .last .1 .1 .1 .0) len long (same ∙ ap length part ∙ long) (s .pre .2) ∙ ap (sets xs 0) end), rw part at (r .ensures .2))
 
 pub run-from-spec : {M : Type 1} → statement M
 run-from-spec =

@@ -3,7 +3,7 @@ use mathlib.Core.Path.{sym, _∙_}
 use denote.Ref.{now}
 use native.Mathlib.Omega.{arith}
 use Rattle.writer.proofs.Puts.{within, as-text}
-use Rattle.run.specs.Run.{mapText, mapEnd}
+use Rattle.run.specs.Run.{mapText, mapEnd, mapMmu}
 use Rattle.run.proofs.Laws.{end-refused, end-granted, text-refused, text-granted, refused-map}
 use borrow.Author.Needs.{needs}
 use Rattle.run.proofs.run_mapped.Statement.{statement}
@@ -31,12 +31,12 @@ same-length-2 : tie.Need-same-length-2
 same-length-2 c = search needs
 
 returns : tie.Need-returns
-unfolding mapText mapEnd
+unfolding mapText mapEnd mapMmu
 returns c =
     let z = c .before .before .before .before .before .before .before .before .before .before .before .before .before .before .before in
     let i = c .before .before .before .before .before .before .before .before .before .install .ensures in
     let e = sym (i .0) ∙ c .before .before .before .before .before .said .given .1 in
-    (i .1 ∙ refused-map (z .args .p .settings .scheme) (z .args .p .map) (now (z .args .ram)) e ∙ sym (end-refused e _ _), as-text (sym (text-refused e _)) (within (omega arith) (c .before .before .put-refused .ensures)))
+    (sym (end-refused e _ _), i .1 ∙ refused-map (z .args .p .settings .scheme) (z .args .p .map) (now (z .args .ram)) e ∙ sym (end-refused e _ _), as-text (sym (text-refused e _)) (within (omega arith) (c .before .before .put-refused .ensures)))
 
 same-length-3 : tie.Need-same-length-3
 same-length-3 c = search needs
@@ -45,13 +45,14 @@ same-length-4 : tie.Need-same-length-4
 same-length-4 c = search needs
 
 returns-2 : tie.Need-returns-2
-unfolding mapText mapEnd
+unfolding mapText mapEnd mapMmu
 returns-2 c =
     let i = c .before .before .before .before .before .before .before .before .before .before .before .install .ensures in
     let e = sym (i .0) ∙ c .before .before .before .before .before .before .before .enum-told .given .1 in
     let r = c .before .before .before .before .run-all .ensures in
-    let end = rw (i .1) at (r .0) in
-    (end ∙ sym (end-granted e _ _), as-text (sym (text-granted e _)) (rw (i .1) at (r .1)))
+    let state = rw (i .1) at (r .0) in
+    let end = rw (i .1) at (r .1) in
+    (state ∙ sym (end-granted e _ _), end ∙ sym (end-granted e _ _), as-text (sym (text-granted e _)) (rw (i .1) at (r .2)))
 
 pub run-mapped-spec : {M : Type 1} → statement M
 run-mapped-spec =

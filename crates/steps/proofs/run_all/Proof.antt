@@ -23,7 +23,7 @@ returns : tie.Need-returns
 returns c =
     let k = c .before .before in
     let r = k .before .before .before .before .before .before .before .before .before .run-records .ensures in
-    (r .1, then (r .2) (rw (r .0) at (k .put-tallies .ensures)))
+    (r .0, r .1, then (r .2) (rw (r .0) at (k .put-tallies .ensures)))
 
 pub run-all-spec : {M : Type 1} → statement M
 run-all-spec = tie.close (tie.spec run-records-requires put-tallies-requires same-length same-length-2 returns)

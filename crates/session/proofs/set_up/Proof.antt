@@ -1,12 +1,11 @@
--- `run::set_up` meets its contract: the state by the calls' own contracts, and the refusal by whether the scheme is valid.
+-- `session::set_up` meets its contract: the state by the calls' own contracts, and the refusal by whether the scheme is valid.
 use mathlib.Core.Path.{sym, ap, _∙_}
 use borrow.Author.Tests.{not-true, not-false}
 use Rattle.mmu.specs.declared.Kept.{Kept}
-use Rattle.run.specs.Run.{startOf}
-use Rattle.run.proofs.Laws.{bad-scheme, good-scheme}
+use Rattle.session.specs.Session.{startOf, settingsSaid}
 use borrow.Author.Needs.{needs}
-use Rattle.run.proofs.set_up.Statement.{statement}
-use Rattle.run.proofs.set_up.Tie as tie
+use Rattle.session.proofs.set_up.Statement.{statement}
+use Rattle.session.proofs.set_up.Tie as tie
 
 new-requires : tie.Need-new-requires
 new-requires c κs = search needs
@@ -21,13 +20,16 @@ is-valid-requires : tie.Need-is-valid-requires
 is-valid-requires c κs = search needs
 
 returns : tie.Need-returns
-unfolding startOf
-returns c = (bad-scheme _ (sym (c .before .is-valid .ensures) ∙ not-true _ (c .if1 .taken)), rw (c .before .before .new2 .ensures, c .before .before .before .before .set-scheme .ensures, c .before .before .before .before .before .before .new .ensures))
+unfolding startOf settingsSaid
+returns c = (
+  rw (sym (c .before .is-valid .ensures) ∙ not-true _ (c .if1 .taken)),
+  rw (c .before .before .new2 .ensures, c .before .before .before .before .set-scheme .ensures, c .before .before .before .before .before .before .new .ensures),
+)
 
 returns-2 : tie.Need-returns-2
-unfolding startOf
+unfolding startOf settingsSaid
 returns-2 c = (
-  ap (λ (k : Kept). k .said) (c .before .before .before .before .before .before .new .ensures) ∙ good-scheme _ (sym (c .before .is-valid .ensures) ∙ not-false _ (c .if1 .left)),
+  rw (sym (c .before .is-valid .ensures) ∙ not-false _ (c .if1 .left)) (ap (λ (k : Kept). k .said) (c .before .before .before .before .before .before .new .ensures)),
   rw (c .before .before .new2 .ensures, c .before .before .before .before .set-scheme .ensures, c .before .before .before .before .before .before .new .ensures),
 )
 
