@@ -50,7 +50,7 @@ pub struct Reading {
     pub parts: Parts,
 }
 
-fn scheme_at(file: &[u8], at: usize) -> PagingScheme
+pub fn scheme_at(file: &[u8], at: usize) -> PagingScheme
     requires { ⌜ at + 6 ≤ length (now file) ⌝ }
     ensures { λ r. ⌜ r ≡ schemeAt (now (file .entry)) at ⌝ }
 {
@@ -64,7 +64,7 @@ fn scheme_at(file: &[u8], at: usize) -> PagingScheme
     }
 }
 
-fn config_at(file: &[u8], at: usize) -> TlbConfig
+pub fn config_at(file: &[u8], at: usize) -> TlbConfig
     requires { ⌜ at + 6 ≤ length (now file) ⌝ }
     ensures { λ r. ⌜ r ≡ configAt (now (file .entry)) at ⌝ }
 {
@@ -121,6 +121,16 @@ fn window_at(file: &[u8], at: usize) -> Window
     Window { start, end }
 }
 
+pub fn body_at(file: &[u8], at: usize) -> MapBody
+    requires { ⌜ at + 20 ≤ length (now file) ⌝ }
+    ensures { λ r. ⌜ r ≡ bodyAt (now (file .entry)) at ⌝ }
+{
+    let spec = spec_at(file, at);
+    let root = u32_at(file, at + 8);
+    let window = window_at(file, at);
+    MapBody { spec, root, window }
+}
+
 // No map, or the one at a place.
 fn map_at(file: &[u8], at: usize, len: usize) -> MapPart
     requires { ⌜ ((len ≡ 0 → ⊥) → at + 20 ≤ length (now file)) ⌝ }
@@ -129,10 +139,7 @@ fn map_at(file: &[u8], at: usize, len: usize) -> MapPart
     if len == 0 {
         return MapPart::None;
     }
-    let spec = spec_at(file, at);
-    let root = u32_at(file, at + 8);
-    let window = window_at(file, at);
-    let body = MapBody { spec, root, window };
+    let body = body_at(file, at);
     MapPart::Map(body)
 }
 

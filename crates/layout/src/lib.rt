@@ -120,7 +120,7 @@ fn flag_bits_ok(b: u8) -> bool
     (b <= 63) & (b % 2 == 0)
 }
 
-fn map_ok(file: &[u8], at: usize) -> bool
+pub fn map_ok(file: &[u8], at: usize) -> bool
     requires { ⌜ at + 20 ≤ length (now file) ⌝ }
     ensures { λ r. ⌜ r ≡ mapOk (now (file .entry)) at ⌝ }
 {
@@ -155,7 +155,7 @@ fn record_ok(file: &[u8], p: usize) -> bool
     (file[p + 7] == 0) & (translate | flush)
 }
 
-fn records_ok(file: &[u8], at: usize, n: usize) -> bool
+pub fn records_ok(file: &[u8], at: usize, n: usize) -> bool
     requires { ⌜ at + 8 * n ≤ length (now file) ⌝ }
     ensures { λ r. ⌜ r ≡ recordsOk 8 (now (file .entry)) at n ⌝ }
 {
