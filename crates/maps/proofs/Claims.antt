@@ -3,10 +3,10 @@ use native.Mathlib.Omega.{arith}
 use mathlib.Core.Path.{ap}
 use Rattle.memory.specs.Word.{leAt}
 use Rattle.maps.specs.Claims.{TheSum, EveryAccessIsSent, TheSumIsTheAddress, RulesAgree, RulesDiffer}
-use Rattle.maps.specs.Claims.{CountIsWritten, WrittenOnce, OutsideKept, GapsKept}
+use Rattle.maps.specs.Claims.{CountIsWritten, WrittenOnce, OutsideKept, GapsKept, BytesStay}
 use Rattle.maps.proofs.Apart.{tables-distinct}
 use Rattle.maps.proofs.Tables.{tables-full, tables-count}
-use Rattle.maps.proofs.Kept.{byte-same, above-same, below-same, gaps-same}
+use Rattle.maps.proofs.Kept.{byte-same, bytes-same, above-same, below-same, gaps-same}
 use Rattle.maps.proofs.Counted.{counted, count-refused}
 use Rattle.installer.proofs.Install.{granted}
 use Rattle.scheme.specs.Scheme.{widthsOf}
@@ -53,3 +53,6 @@ outside-kept s m win root ram k o = byte-same s m win root ram k o
 pub gaps-kept : GapsKept
 gaps-kept s m win root ram ok =
     record { above = above-same s m win root ram ok; below = below-same s m win root ram ok; gaps = gaps-same s m win root ram ok }
+
+pub bytes-stay : BytesStay
+bytes-stay s m win root ram small = bytes-same s m win root ram small

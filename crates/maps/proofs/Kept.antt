@@ -13,6 +13,8 @@ use Rattle.scheme.specs.Scheme.{widthsOf}
 use Rattle.scheme.specs.declared.PagingScheme.{PagingScheme}
 use Rattle.scheme.specs.declared.refusal.Said.{Said}
 use Rattle.scheme.specs.declared.refusal.Said.the-variants.{Granted, Refused}
+use Rattle.walks.specs.Plain.{Bytes}
+use Rattle.walks.proofs.Bytes.{put-bytes}
 use Rattle.plan.specs.declared.PageMapSpec.{PageMapSpec}
 use Rattle.plan.specs.declared.Plan.{Plan}
 use Rattle.plan.specs.declared.Window.{Window}
@@ -45,6 +47,21 @@ byte-same s m win root ram k o = go (installSaid s m win root ram) refl
     go : (said : Said) → installSaid s m win root ram ≡ said → getD (installRam s m win root ram) k 0 ≡ getD ram k 0
     go Granted e = ap (λ xs. getD xs k 0) (laid s m win root ram e) ∙ byte-stays (allWrites (planOf s m win) root) ram k o
     go (Refused why) e = ap (λ xs. getD xs k 0) (not-laid s m win root ram why e)
+
+-- ---- and every byte stays one
+
+written-bytes : (ws : List Write) (xs : List ℕ) → Bytes xs → Bytes (written 0 ws xs)
+unfolding written
+written-bytes [] xs small = small
+written-bytes (w ∷ ws) xs small = written-bytes ws (putAt 4 xs (w .at - 0) (w .word)) (put-bytes 4 xs (w .at - 0) (w .word) small)
+
+pub bytes-same : (s : PagingScheme) (m : PageMapSpec) (win : Window) (root : ℕ) (ram : List ℕ) → Bytes ram → Bytes (installRam s m win root ram)
+unfolding tableAt
+bytes-same s m win root ram small = go (installSaid s m win root ram) refl
+  where
+    go : (said : Said) → installSaid s m win root ram ≡ said → Bytes (installRam s m win root ram)
+    go Granted e = rw (laid s m win root ram e) (written-bytes (tableAt (planOf s m win) 0 0 root) ram small)
+    go (Refused why) e = rw (not-laid s m win root ram why e) small
 
 -- ---- the child tables lie below their parents, each in its own room
 

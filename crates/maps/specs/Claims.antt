@@ -19,6 +19,7 @@ use Rattle.walk.specs.Verdict.{walkOf}
 use Rattle.walk.specs.declared.Access.{Access}
 use Rattle.walk.specs.declared.LeafAt.{LeafAt}
 use Rattle.walk.specs.declared.Verdict.the-variants.{Page, Fault}
+use Rattle.walks.specs.Plain.{Bytes}
 use Rattle.plan.specs.declared.MapRule.the-variants.{Relative, Absolute}
 use Rattle.plan.specs.declared.PageMapSpec.{PageMapSpec}
 use Rattle.plan.specs.declared.Plan.{Plan}
@@ -139,3 +140,8 @@ abbrev pub GapsKept : Type 0
 GapsKept =
     (s : PagingScheme) (m : PageMapSpec) (win : Window) (root : ℕ) (ram : List ℕ) → installSaid s m win root ram ≡ Granted
     → Spared s m win root ram
+
+-- RAM stays bytes, as a lent slice is
+abbrev pub BytesStay : Type 0
+BytesStay =
+    (s : PagingScheme) (m : PageMapSpec) (win : Window) (root : ℕ) (ram : List ℕ) → Bytes ram → Bytes (installRam s m win root ram)

@@ -20,6 +20,7 @@ use Rattle.scheme.specs.declared.access.AccessType.the-variants.{Fetch, Load, S
 use Rattle.walker.specs.Descent.{sv32}
 use Rattle.walk.specs.Answer.{markOf, markIn}
 use Rattle.walks.specs.Plain.{Bytes}
+use Rattle.walks.proofs.Bytes.{set-bytes}
 use Rattle.walks.proofs.Marks.{digit-of}
 use Rattle.access.specs.Translate.{isStore}
 
@@ -169,12 +170,7 @@ byte-again k j a ram h = twice k j a ram ∙ ap (λ (x : ℕ). set ram a x) (mar
 
 -- RAM stays bytes
 pub byte-bytes : (k : AccessType) (a : ℕ) (ram : List ℕ) → Bytes ram → Bytes (byteMarked k a ram)
-byte-bytes k a ram small i = go (decLt a (length ram)) (ℕ-discrete i a)
-  where
-    go : Dec (a < length ram) → Dec (i ≡ a) → getD (byteMarked k a ram) i 0 < 256
-    go (yes h) (yes e) = rw (e, getD-set-same ram a (markOf k (getD ram a 0)) 0 h) (mark-small k _ (small a))
-    go (no n) (yes e) = rw (set-out ram a (markOf k (getD ram a 0)) (omega arith)) (small i)
-    go d (no n) = rw (getD-set-other ram a i (markOf k (getD ram a 0)) 0 n) (small i)
+byte-bytes k a ram small = set-bytes ram a (markOf k (getD ram a 0)) (mark-small k _ (small a)) small
 
 -- ---- a word of RAM
 

@@ -1,3 +1,4 @@
+pub mod Bytes
 pub mod Steady
 pub mod Marks
 pub mod Verdicts
