@@ -1,11 +1,12 @@
--- Each of document 01's proved edges, by computing the definitions.
+-- Each of document 01's proved edges: by computing the definitions, or, where RAM is part of it, by the theorems over them.
 use mathlib.Core.Path.{refl}
 use Rattle.scheme.specs.Refusals.{asked}
 use Rattle.scheme.specs.Scheme.{total, okWidths, validOf, rootPa}
 use Rattle.entry.specs.Geometry.{powUp, entriesFor, setsFor}
 use Rattle.mmu.specs.Calls.{newOf}
 use Rattle.maps.proofs.Edges as maps
-use Rattle.edges.specs.Edges.{P1, P2, P3, P4, P5, P6, P7, P8, P9, P11, P12}
+use Rattle.edges.proofs.CaseT as caseT
+use Rattle.edges.specs.Edges.{P1, P2, P3, P4, P5, P6, P7, P8, P9, P10, P11, P12}
 
 pub p1 : P1
 unfolding validOf okWidths total
@@ -41,6 +42,9 @@ p8 = (refl, refl)
 pub p9 : P9
 unfolding rootPa asked validOf okWidths total
 p9 = (refl, refl)
+
+pub p10 : P10
+p10 = caseT.p10
 
 pub p11 : P11
 p11 = maps.p11

@@ -1,20 +1,25 @@
 -- Document 01, "Both sides of each edge": the numbers that are proved, from the definitions.
 use Prim.Native.Nat.{ℕ}
 use mathlib.Core.Path.{_≡_}
-use mathlib.Core.List.{[], _∷_}
+use mathlib.Core.List.{List, [], _∷_}
 use mathlib.Core.Bool.{true, false}
 use lib.IntN.{pos, negsuc}
+use lib.ListN.{length}
+use Rattle.memory.specs.Word.{leAt}
 use Rattle.scheme.specs.Map.{deltaOf}
 use Rattle.scheme.specs.Scheme.{validOf, sv32Scheme, rootPa}
 use Rattle.scheme.specs.declared.PagingScheme.{PagingScheme}
 use Rattle.scheme.specs.declared.map.MapKind.the-variants.{Offset}
 use Rattle.scheme.specs.declared.refusal.Asked.the-variants.{Is}
 use Rattle.scheme.specs.declared.refusal.Refusal.the-variants.{TooManyEntries}
-use Rattle.scheme.specs.declared.refusal.Said.the-variants.{Refused}
+use Rattle.scheme.specs.declared.refusal.Said.the-variants.{Granted, Refused}
+use Rattle.walks.specs.Plain.{Bytes}
 use Rattle.entry.specs.Geometry.{entriesFor, setsFor, defaultConfig}
 use Rattle.entry.specs.declared.TlbConfig.{TlbConfig}
 use Rattle.mmu.specs.Calls.{roomFor, newOf}
+use Rattle.installer.specs.Install.{installSaid}
 use Rattle.maps.specs.Edges as maps
+use Rattle.edges.specs.CaseT.{mapT, windowT, zerosT, endT}
 
 -- a scheme of one or two widths
 abbrev pub schemeOf : ℕ → ℕ → ℕ → ℕ → PagingScheme
@@ -65,6 +70,17 @@ P8 = (deltaOf (Offset (negsuc 0)) ≡ 0xFFF0_0000) × (deltaOf (Offset (pos 4096
 -- "P9 `root_pa` of 65536 for Sv32: F000; of 100: 0"
 abbrev pub P9 : Type 0
 P9 = (rootPa sv32Scheme 65536 ≡ Is 0xF000) × (rootPa sv32Scheme 100 ≡ Is 0)
+
+-- a RAM that case T leaves the words DF and 0010005F in, once its map is installed and nothing refused
+abbrev pub EndsAsT : List ℕ → Type 0
+EndsAsT ram =
+    (installSaid sv32Scheme mapT windowT 4096 ram ≡ Granted)
+    × (leAt 4 (endT ram) 4096 ≡ 0xDF)
+    × (leAt 4 (endT ram) 4100 ≡ 0x0010_005F)
+
+-- "P10 Case T ends with the words DF and 0010005F at 4096 and 4100": on its 8192 zeros, and on any other 8192 bytes
+abbrev pub P10 : Type 0
+P10 = EndsAsT zerosT × ((ram : List ℕ) → length ram ≡ 8192 → Bytes ram → EndsAsT ram)
 
 -- "P11 Sv32, root 10000h, RAM 11000h, identity RWXU, window 400000h to 401000h: root word 1 is 3C01, the child is at F000, its word 0 is 1F
 -- relative and 0010001F absolute": written out in `maps`, where it also shows that the two rules differ
