@@ -6,7 +6,8 @@ use std::io::Write;
 
 const SEED: u64 = 20_261_115;
 const MAPS: usize = 90;
-const TABLES: usize = 205;
+const TABLES: usize = 192;
+const BUSY: usize = 12;
 
 /// Entries and ways. All give 128 entries or fewer; 32 and 3 give 33, 0 and 0 give 1.
 const GEOMETRIES: [(u16, u8); 13] = [
@@ -104,14 +105,14 @@ fn settings(rng: &mut Rng, k: usize, scheme: Scheme, table: u32) -> Settings {
     let (entries, ways) = GEOMETRIES[k / 6 % GEOMETRIES.len()];
     // a PPN's two highest bits fall out of the 32-bit address
     let ppn = table >> 12 | if rng.one_in(4) { rng.below(4) << 20 } else { 0 };
-    let bare = rng.one_in(40);
+    let bare = rng.one_in(30);
     Settings {
         scheme,
         entries,
         ways,
         policy: (k % 6) as u8,
         latencies: [rng.below(4) as u8, rng.pick(&[20, 0, 255, 7])],
-        switches: if rng.one_in(12) { rng.below(8) as u8 } else { rng.pick(&[7, 5]) },
+        switches: if rng.one_in(6) { rng.below(8) as u8 } else { rng.pick(&[7, 5]) },
         satp: (!bare as u32) << 31 | rng.below(512) << 22 | ppn,
     }
 }
@@ -167,9 +168,12 @@ fn installed(rng: &mut Rng, k: usize) -> Vec<u8> {
             _ => rng.next(),
         };
         // now and then empty, else up to two entries of the last level but one
-        let most = if rng.one_in(6) { 0 } else { 2 << scheme.shift(last_but_one).min(29) };
-        let length = rng.below(1 + most);
-        let end = start.saturating_add(length);
+        let most = 2 << scheme.shift(last_but_one).min(29);
+        let end = match rng.below(8) {
+            0 => start,
+            1 => rng.below(1 + start),
+            _ => start.saturating_add(rng.below(1 + most)),
+        };
         let children = child_bytes(&scheme, start, end);
         let spare = rng.pick(&[0, 0, 4096]);
         let ram = children + (spare + scheme.top_bytes()) as u64;
@@ -251,6 +255,30 @@ fn tables(rng: &mut Rng, k: usize) -> Vec<u8> {
     bundle(&settings(rng, k, scheme, table), &[], &ram, &body)
 }
 
+/// Many pages of both sizes of Sv32 in a cache of several sets, so that it evicts. The root is its own only child: its odd words
+/// point to itself, its even words are leaves, at either level.
+fn busy(rng: &mut Rng, k: usize) -> Vec<u8> {
+    let word = |i: u32| if i % 2 == 1 { 1 } else { i << 20 | 0x1F };
+    let ram: Vec<u8> = (0..1024).flat_map(|i| word(i).to_le_bytes()).collect();
+    let mut set = settings(rng, k, Scheme { offset: 12, widths: vec![10, 10] }, 0);
+    (set.entries, set.ways) = [(32, 3), (128, 4)][k / 6];
+    (set.switches, set.satp) = (7, 0x8000_0000);
+    let places = set.entries as u32 * 3 / 2;
+    let mut body = Vec::new();
+    for _ in 0..500 {
+        // big pages at even places, small ones at odd; the first come again more often
+        let (near, far) = (rng.below(places / 3), rng.below(places));
+        let i = rng.pick(&[near, far]);
+        let va = i << 22 | (rng.below(2) * (i % 2)) << 13 | rng.below(4096);
+        body.extend(match rng.below(100) {
+            0 => access(0, 0, 0, 1),
+            1..5 => access(va, 0, 0, 2),
+            _ => access(va, rng.pick(&[0, 1, 1, 2]), 0, 0),
+        });
+    }
+    bundle(&set, &[], &ram, &body)
+}
+
 /// Document 01's edges, and the smallest bundles.
 fn edges(rng: &mut Rng) -> Vec<Vec<u8>> {
     let sv32 = || Scheme { offset: 12, widths: vec![10, 10] };
@@ -269,6 +297,10 @@ fn edges(rng: &mut Rng) -> Vec<Vec<u8>> {
     let wrap = plain(Scheme { offset: 12, widths: vec![12, 8] }, 0x803F_FFFF);
     let wrap_ram = [leaf(0), leaf(0x100)].concat();
     let wrap_loads = [load(0x4000_0000), load(0x4010_0000), load(0x4020_0000), load(0)].concat();
+    // the same one level down: the root's word 0 points to FFFFF000
+    let wrap_below = plain(Scheme { offset: 12, widths: vec![8, 12] }, 0x8000_0000);
+    let below_ram = [0xFFFF_FC01u32.to_le_bytes(), leaf(0x123), leaf(0x456)].concat();
+    let below_loads = [load(0x40_1000), load(0x40_2000), load(0x40_0000), load(0x3F_F000)].concat();
     // the word at 4096 has only two of its bytes, the one before it all four
     let mut cut = vec![0; 4098];
     cut[4092..4096].copy_from_slice(&leaf(0x400));
@@ -282,6 +314,7 @@ fn edges(rng: &mut Rng) -> Vec<Vec<u8>> {
     let many_loads: Vec<u8> = (0..600).flat_map(|_| load(rng.below(200) << 20 | 4)).collect();
     vec![
         bundle(&wrap, &[], &wrap_ram, &wrap_loads),
+        bundle(&wrap_below, &[], &below_ram, &below_loads),
         bundle(&plain(sv32(), 0x8000_0001), &[], &cut, &cut_loads),
         bundle(&end, &[], &cut, &cut_loads),
         bundle(&end, &[], &[], &[]),
@@ -294,6 +327,7 @@ fn main() {
     let mut list = edges(&mut rng);
     list.extend((0..MAPS).map(|k| installed(&mut rng, k)));
     list.extend((0..TABLES).map(|k| tables(&mut rng, k)));
+    list.extend((0..BUSY).map(|k| busy(&mut rng, k)));
     let mut stream = Vec::new();
     for b in list {
         stream.extend((b.len() as u32).to_le_bytes());
