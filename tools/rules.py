@@ -14,7 +14,8 @@ The indented lines are the text that bundle.py takes, and
     drop POSITION N                  takes N bytes of the finished file away, both hexadecimal
     insert POSITION BYTES            puts bytes in before a position
 
-What a case does not say is as in BASE, or as in the last `base` before it in its file. model.py works every answer out again, and it is an error if the two differ.
+What a case does not say is as in BASE, or as in the last `base` before it in its file. model.py works every answer out
+again, and it is an error if the two differ.
 """
 import glob
 import os
