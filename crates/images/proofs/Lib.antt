@@ -1,0 +1,9 @@
+pub mod Holds
+pub mod Flags
+pub mod Entries
+pub mod States
+pub mod Back
+pub mod Good
+pub mod Cut
+pub mod Exact
+pub mod Claims
