@@ -1,4 +1,5 @@
 // What the test programs print of the MMU: an access and its answer, a slot of the TLB, the tallies, a granted or refused call.
+use access::Answer;
 use access::Outcome;
 use entry::ReplacementPolicy;
 use entry::TlbConfig;
@@ -62,20 +63,24 @@ fn outcome(o: Outcome) {
     }
 }
 
-// One access: who asks, the answer, and the words that a walk asked for.
-pub fn access(m: Mmu, ram: &mut [u8], q: Access) -> Mmu {
+// What an access is answered: who asks, the answer, and the words that a walk asked for.
+pub fn answered(q: Access, said: Answer) {
     let kind = q.kind;
     let mode = q.mode;
     show::hex(q.vaddr);
     tell::kind_name(kind);
     tell::mode_name(mode);
-    let s = mmu::translate(m, q, ram);
-    let said = s.said;
     let o = said.outcome;
     outcome(o);
     show::text(b" words");
     show::num(said.words);
     show::end();
+}
+
+pub fn access(m: Mmu, ram: &mut [u8], q: Access) -> Mmu {
+    let s = mmu::translate(m, q, ram);
+    let said = s.said;
+    answered(q, said);
     s.mmu
 }
 

@@ -96,6 +96,14 @@ fn replied(reply: Reply) {
     }
 }
 
+// The word at an address, or a dash.
+pub fn word(ram: &[u8], at: u32) {
+    match memory::load32(ram, at) {
+        Word::Is(x) => show::hex(x),
+        Word::Unreadable => show::text(b" -"),
+    }
+}
+
 // One walk: who asks, the answer, the words asked for, the word at `leaf` afterwards, and the reason of a fault.
 pub fn walked(ram: &mut [u8], s: PagingScheme, root: u32, access: Access, leaf: u32) {
     let kind = access.kind;
@@ -104,10 +112,7 @@ pub fn walked(ram: &mut [u8], s: PagingScheme, root: u32, access: Access, leaf: 
     kind_name(kind);
     mode_name(mode);
     replied(walk::walk(s, root, ram, access));
-    match memory::load32(ram, leaf) {
-        Word::Is(x) => show::hex(x),
-        Word::Unreadable => show::text(b" -"),
-    }
+    word(ram, leaf);
     verdict(ram, s, root, access);
     show::end();
 }
