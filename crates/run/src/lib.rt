@@ -73,7 +73,7 @@ fn run_from(file: &[u8], p: Parts, m: Mmu, ram: &mut [u8], out: &mut [u8]) -> St
 }
 
 // The first of two answers that refuses.
-fn first_of(a: Said, b: Said) -> Said
+pub fn first_of(a: Said, b: Said) -> Said
     ensures { λ r. ⌜ r ≡ firstOf a b ⌝ }
 {
     match a {

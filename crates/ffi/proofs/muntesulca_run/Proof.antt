@@ -1,0 +1,33 @@
+-- `ffi::muntesulca_run` meets its contract: the answer as a number.
+use mathlib.Core.Path.{ap, _∙_}
+use Rattle.ffi.specs.Exports.{ranNumber}
+use borrow.Author.Needs.{needs}
+use Rattle.ffi.proofs.muntesulca_run.Statement.{statement}
+use Rattle.ffi.proofs.muntesulca_run.Tie as tie
+
+run-requires : tie.Need-run-requires
+run-requires c κs = search needs
+
+ran-number-requires : tie.Need-ran-number-requires
+ran-number-requires c κs = search needs
+
+same-length : tie.Need-same-length
+same-length c = search needs
+
+same-length-2 : tie.Need-same-length-2
+same-length-2 c = search needs
+
+returns : tie.Need-returns
+returns c =
+    let q = c .before .before .before .before .before .run .ensures in
+    (c .ran-number .ensures ∙ ap ranNumber (q .0), q .1, q .2)
+
+pub muntesulca-run-spec : {M : Type 1} → statement M
+muntesulca-run-spec =
+    tie.close
+    (tie.spec
+    run-requires
+    ran-number-requires
+    same-length
+    same-length-2
+    returns)

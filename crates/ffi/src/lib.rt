@@ -1,0 +1,260 @@
+// What a host in C or Rust links: numbers and byte slices alone, a slice as a pointer and a length. Names begin with the project's, since a
+// name is the whole program's.
+use run::Ran;
+use scheme::Asked;
+use scheme::MapKind;
+use scheme::PagingScheme;
+use session::Event;
+use walk::Access;
+use walk::Reply;
+use walk::WalkAnswer;
+use walk::Walked;
+ghost use mathlib.Core.Path.{_≡_};
+ghost use mathlib.Core.Bool.{cond};
+ghost use Prim.Native.Nat.{_≤_, _<_};
+ghost use lib.ListN.{length};
+ghost use Rattle.scheme.specs.Satp.{satpOf};
+ghost use Rattle.scheme.specs.Map.{deltaOf};
+ghost use Rattle.scheme.specs.declared.map.MapKind.the-variants.{Offset};
+ghost use Rattle.walk.specs.Answer.{walkReply, walkRam};
+ghost use Rattle.writer.specs.Put.{Put};
+ghost use Rattle.run.specs.Run.{tooShort, outputOf, endRamOf, ranOf, ranBuffer};
+ghost use Rattle.imaged.specs.Imaged.{saidNumber, keptIn, schemedOf, configuredOf, openedSaid, recordsText, recordsRam, recordsImage, recordsShort, recordsRan};
+ghost use Rattle.ffi.specs.Exports.{ranNumber, stateShort, stateRan, stateBuffer, mapGiven, installedSaid, installedRam, recordGiven, toldCause, toldPlace, walkTold, replyNumber, replyTold, walkNumber, toldAfter, ramAfter, rootNumber};
+
+fn ran_number(ran: Ran) -> usize
+    ensures { λ r. ⌜ r ≡ ranNumber ran ⌝ }
+{
+    match ran {
+        Ran::Wrote(n) => n,
+        Ran::TooShort => 0xFFFF_FFFF_FFFF_FFFF,
+    }
+}
+
+// Runs a bundle: the bytes of output that are put at the start of `out`. RAM is left at the start of `ram`.
+#[no_mangle]
+pub extern "C" fn muntesulca_run(file: &[u8], ram: &mut [u8], out: &mut [u8]) -> usize
+    ensures { λ r. ⌜ (r ≡ ranNumber (ranOf (now (file .entry)) (length (now (ram .entry))) (length (now (out .entry)))))
+        × (now (out .exit) ≡ ranBuffer (tooShort (now (file .entry)) (length (now (ram .entry))) (length (now (out .entry)))) (now (out .entry)) (outputOf (now (file .entry))))
+        × (now (ram .exit) ≡ ranBuffer (tooShort (now (file .entry)) (length (now (ram .entry))) (length (now (out .entry)))) (now (ram .entry)) (endRamOf (now (file .entry)))) ⌝ }
+{
+    let ran = run::run(file, ram, out);
+    ran_number(ran)
+}
+
+// The same, and the image of the state that is left, at the start of `state`.
+#[no_mangle]
+pub extern "C" fn muntesulca_run_state(
+    file: &[u8],
+    ram: &mut [u8],
+    out: &mut [u8],
+    state: &mut [u8],
+) -> usize
+    ensures { λ r. ⌜ (r ≡ ranNumber (stateRan (now (file .entry)) (length (now (ram .entry))) (length (now (out .entry))) (length (now (state .entry)))))
+        × (now (out .exit) ≡ ranBuffer (stateShort (now (file .entry)) (length (now (ram .entry))) (length (now (out .entry))) (length (now (state .entry)))) (now (out .entry)) (outputOf (now (file .entry))))
+        × (now (ram .exit) ≡ ranBuffer (stateShort (now (file .entry)) (length (now (ram .entry))) (length (now (out .entry))) (length (now (state .entry)))) (now (ram .entry)) (endRamOf (now (file .entry))))
+        × (now (state .exit) ≡ stateBuffer (stateShort (now (file .entry)) (length (now (ram .entry))) (length (now (out .entry))) (length (now (state .entry)))) (now (file .entry)) (now (state .entry))) ⌝ }
+{
+    if state.len() < 2388 {
+        return 0xFFFF_FFFF_FFFF_FFFF;
+    }
+    let k = run::run_kept(file, ram, out);
+    let ran = k.said;
+    match ran {
+        Ran::TooShort => 0xFFFF_FFFF_FFFF_FFFF,
+        Ran::Wrote(n) => {
+            let m = k.mmu;
+            image::put_state(m, state);
+            n
+        }
+    }
+}
+
+// A list of records on a state's image: the bytes of output that are put at the start of `out`.
+#[no_mangle]
+pub extern "C" fn muntesulca_records(
+    image: &mut [u8],
+    records: &[u8],
+    ram: &mut [u8],
+    out: &mut [u8],
+) -> usize
+    ensures { λ r. ⌜ (r ≡ ranNumber (recordsRan (now (image .entry)) (now (records .entry)) (now (ram .entry)) (length (now (out .entry)))))
+        × (now (out .exit) ≡ ranBuffer (recordsShort (now (image .entry)) (now (records .entry)) (length (now (out .entry)))) (now (out .entry)) (recordsText (now (image .entry)) (now (records .entry)) (now (ram .entry))))
+        × (now (ram .exit) ≡ cond (recordsShort (now (image .entry)) (now (records .entry)) (length (now (out .entry)))) (now (ram .entry)) (recordsRam (now (image .entry)) (now (records .entry)) (now (ram .entry))))
+        × (now (image .exit) ≡ cond (recordsShort (now (image .entry)) (now (records .entry)) (length (now (out .entry)))) (now (image .entry)) (recordsImage (now (image .entry)) (now (records .entry)) (now (ram .entry)))) ⌝ }
+{
+    let ran = imaged::run_records(image, records, ram, out);
+    ran_number(ran)
+}
+
+// The same for the state and the RAM alone: the refusal's number, or 0.
+#[no_mangle]
+pub extern "C" fn muntesulca_events(image: &mut [u8], records: &[u8], ram: &mut [u8]) -> u32
+    ensures { λ r. ⌜ (r ≡ saidNumber (openedSaid (now (image .entry)) (now (records .entry))))
+        × (now (image .exit) ≡ recordsImage (now (image .entry)) (now (records .entry)) (now (ram .entry)))
+        × (now (ram .exit) ≡ recordsRam (now (image .entry)) (now (records .entry)) (now (ram .entry))) ⌝ }
+{
+    imaged::run_events(image, records, ram)
+}
+
+#[no_mangle]
+pub extern "C" fn muntesulca_set_scheme(image: &mut [u8], scheme: &[u8]) -> u32
+    ensures { λ r. ⌜ (r ≡ saidNumber (schemedOf (now (image .entry)) (now (scheme .entry)) .said))
+        × (now (image .exit) ≡ keptIn (schemedOf (now (image .entry)) (now (scheme .entry))) (now (image .entry))) ⌝ }
+{
+    imaged::set_scheme(image, scheme)
+}
+
+#[no_mangle]
+pub extern "C" fn muntesulca_reconfigure(image: &mut [u8], config: &[u8]) -> u32
+    ensures { λ r. ⌜ (r ≡ saidNumber (configuredOf (now (image .entry)) (now (config .entry)) .said))
+        × (now (image .exit) ≡ keptIn (configuredOf (now (image .entry)) (now (config .entry))) (now (image .entry))) ⌝ }
+{
+    imaged::reconfigure(image, config)
+}
+
+fn map_given(scheme: &[u8], map: &[u8]) -> bool
+    ensures { λ r. ⌜ r ≡ mapGiven (now (scheme .entry)) (now (map .entry)) ⌝ }
+{
+    if scheme.len() != 6 {
+        return false;
+    }
+    if map.len() != 20 {
+        return false;
+    }
+    layout::map_ok(map, 0)
+}
+
+// Installs a map into RAM: the refusal's number, or 0.
+#[no_mangle]
+pub extern "C" fn muntesulca_install(scheme: &[u8], map: &[u8], ram: &mut [u8]) -> u32
+    ensures { λ r. ⌜ (r ≡ saidNumber (installedSaid (now (scheme .entry)) (now (map .entry)) (now (ram .entry))))
+        × (now (ram .exit) ≡ installedRam (now (scheme .entry)) (now (map .entry)) (now (ram .entry))) ⌝ }
+{
+    if !map_given(scheme, map) {
+        return 8;
+    }
+    let s = bundle::scheme_at(scheme, 0);
+    let b = bundle::body_at(map, 0);
+    let spec = b.spec;
+    let window = b.window;
+    let said = installer::install_map_scheme(ram, b.root, s, spec, window);
+    imaged::said_number(said)
+}
+
+fn record_given(scheme: &[u8], asked: &[u8]) -> bool
+    ensures { λ r. ⌜ r ≡ recordGiven (now (scheme .entry)) (now (asked .entry)) ⌝ }
+{
+    if scheme.len() != 6 {
+        return false;
+    }
+    if asked.len() != 8 {
+        return false;
+    }
+    layout::records_ok(asked, 0, 1)
+}
+
+fn told_cause(w: Walked) -> u32
+    ensures { λ r. ⌜ r ≡ toldCause w ⌝ }
+{
+    match w {
+        Walked::Ok(r) => 0,
+        Walked::Err(f) => f.cause,
+    }
+}
+
+fn told_place(w: Walked) -> u32
+    ensures { λ r. ⌜ r ≡ toldPlace w ⌝ }
+{
+    match w {
+        Walked::Ok(r) => r.paddr,
+        Walked::Err(f) => 0,
+    }
+}
+
+fn put_walk(told: &mut [u8], a: WalkAnswer) -> usize
+    requires { ⌜ 12 ≤ length (now told) ⌝ }
+    ensures { λ r. ⌜ Put 12 (now (told .entry)) (now (told .exit)) 0 r (walkTold a) ⌝ }
+{
+    let w = a.answer;
+    let cause = told_cause(w);
+    let place = told_place(w);
+    let x = entry_image::put_le(told, 0, 4, cause as u64);
+    let y = entry_image::put_le(told, x, 4, place as u64);
+    entry_image::put_le(told, y, 4, a.words as u64)
+}
+
+fn walk_one(s: PagingScheme, root: u32, q: Access, ram: &mut [u8], told: &mut [u8]) -> u32
+    requires { ⌜ 12 ≤ length (now told) ⌝ }
+    ensures { λ r. ⌜ (r ≡ replyNumber (walkReply s root (now (ram .entry)) q))
+        × (now (ram .exit) ≡ walkRam s root (now (ram .entry)) q)
+        × (now (told .exit) ≡ replyTold (walkReply s root (now (ram .entry)) q) (now (told .entry))) ⌝ }
+{
+    let reply = walk::walk(s, root, ram, q);
+    match reply {
+        Reply::Refused(why) => why.number(),
+        Reply::Done(a) => {
+            put_walk(told, a);
+            0
+        }
+    }
+}
+
+// One access by a plain walk from a root frame: `told` gets the cause, the address and the count of words.
+#[no_mangle]
+pub extern "C" fn muntesulca_walk(
+    scheme: &[u8],
+    root: u32,
+    asked: &[u8],
+    ram: &mut [u8],
+    told: &mut [u8],
+) -> u32
+    ensures { λ r. ⌜ (r ≡ walkNumber (now (scheme .entry)) root (now (asked .entry)) (now (ram .entry)) (now (told .entry)))
+        × (now (ram .exit) ≡ ramAfter (now (scheme .entry)) root (now (asked .entry)) (now (ram .entry)) (now (told .entry)))
+        × (now (told .exit) ≡ toldAfter (now (scheme .entry)) root (now (asked .entry)) (now (ram .entry)) (now (told .entry))) ⌝ }
+{
+    if told.len() < 12 {
+        return 255;
+    }
+    if !record_given(scheme, asked) {
+        return 8;
+    }
+    let s = bundle::scheme_at(scheme, 0);
+    let e = bundle::event_at(asked, 0);
+    match e {
+        Event::Translate(q) => walk_one(s, root, q, ram, told),
+        Event::Flush => 8,
+        Event::FlushAt(va) => 8,
+    }
+}
+
+// The root of a RAM of some size, or 2^32 and the refusal's number more.
+#[no_mangle]
+pub extern "C" fn muntesulca_root_pa(scheme: &[u8], ram_size: u32) -> u64
+    ensures { λ r. ⌜ r ≡ rootNumber (now (scheme .entry)) «ram_size» ⌝ }
+{
+    if scheme.len() != 6 {
+        return 0x1_0000_0008;
+    }
+    let s = bundle::scheme_at(scheme, 0);
+    let told = s.root_pa(ram_size);
+    match told {
+        Asked::Is(n) => n as u64,
+        Asked::Refused(why) => 0x1_0000_0000 + why.number() as u64,
+    }
+}
+
+#[no_mangle]
+pub extern "C" fn muntesulca_make_satp(root: u32, asid: u16) -> u32
+    ensures { λ r. ⌜ r ≡ satpOf root asid ⌝ }
+{
+    scheme::make_satp(root, asid)
+}
+
+#[no_mangle]
+pub extern "C" fn muntesulca_delta_bytes(mib: i32) -> u32
+    ensures { λ r. ⌜ r ≡ deltaOf (Offset mib) ⌝ }
+{
+    let kind = MapKind::Offset(mib);
+    kind.delta_bytes()
+}

@@ -1,0 +1,132 @@
+-- What the proofs of this crate share: an answer's number, a call on an image by what is laid out, and a list of records that is not refused.
+use Prim.Native.Nat.{ℕ, _+_, _*_, _/_, _≤_}
+use mathlib.Core.Path.{_≡_, refl}
+use mathlib.Core.Bool.{Bool, true, false, cond}
+use mathlib.Core.List.{List}
+use native.Mathlib.Omega.{arith}
+use lib.Dec.{ltb}
+use lib.ListN.{length}
+use borrow.Author.Tests.{leb-true, eqb-true}
+use Rattle.bits.proofs.Bools.{and-left}
+use Rattle.scheme.specs.Refusals.{numberOf}
+use Rattle.scheme.specs.declared.refusal.Refusal.{Refusal}
+use Rattle.scheme.specs.declared.refusal.Refusal.the-variants.{BadLayout}
+use Rattle.scheme.specs.declared.refusal.Said.{Said}
+use Rattle.scheme.specs.declared.refusal.Said.the-variants.{Granted, Refused}
+use Rattle.state.specs.declared.Mmu.{Mmu}
+use Rattle.mmu.specs.Calls.{refusedWith}
+use Rattle.mmu.specs.declared.Kept.{Kept}
+use Rattle.installer.specs.Install.{onGrant}
+use Rattle.session.specs.Session.{endMmu, endRam}
+use Rattle.text.specs.Lines.{refusedLine}
+use Rattle.steps.specs.Steps.{textFrom}
+use Rattle.run.specs.Run.{firstOf, ranBuffer}
+use Rattle.run.specs.declared.Ran.{Ran}
+use Rattle.run.specs.declared.Ran.the-variants.{Wrote, TooShort}
+use Rattle.run.proofs.Laws.{end-refused, end-granted, text-refused, text-granted, room-refused, room-granted}
+use Rattle.image.specs.Image.{putState}
+use Rattle.image_read.specs.Reading.{stateRead}
+use Rattle.imaged.specs.Imaged.{saidNumber, laidOut, keptIn, calledOn, configGiven, recordsGiven, openedSaid, eventsOf, recordsText, recordsRam, recordsImage, recordsShort, recordsRan}
+
+pub number-refused : {said : Said} {why : Refusal} → said ≡ Refused why → saidNumber said ≡ numberOf why
+unfolding saidNumber
+number-refused e = rw e
+
+pub number-granted : {said : Said} → said ≡ Granted → saidNumber said ≡ 0
+unfolding saidNumber
+number-granted e = rw e
+
+-- ---- a call on an image
+
+-- what is answered and left where bytes are not laid out
+pub refused-call : (m : Mmu) (image : List ℕ) → (8 ≡ saidNumber (refusedWith BadLayout m .said)) × (image ≡ keptIn (refusedWith BadLayout m) image)
+unfolding saidNumber keptIn onGrant
+refused-call m image = (refl, refl)
+
+module _ (good : Bool) (image : List ℕ) (call : Mmu → Kept) where
+  pub called-bad : good ≡ false → calledOn good image call ≡ refusedWith BadLayout (stateRead image .mmu)
+  unfolding calledOn laidOut onGrant
+  called-bad e = rw e
+
+  pub called-refused : {why : Refusal} → stateRead image .said ≡ Refused why → calledOn good image call ≡ refusedWith BadLayout (stateRead image .mmu)
+  unfolding calledOn laidOut onGrant
+  called-refused {why} e = rw e (go good)
+    where
+      go : (b : Bool) → onGrant (cond b (Refused why) (Refused BadLayout)) (call (stateRead image .mmu)) (refusedWith BadLayout (stateRead image .mmu)) ≡ refusedWith BadLayout (stateRead image .mmu)
+      go true = refl
+      go false = refl
+
+  pub called-good : good ≡ true → stateRead image .said ≡ Granted → calledOn good image call ≡ call (stateRead image .mmu)
+  unfolding calledOn laidOut onGrant
+  called-good e f = rw (e, f)
+
+-- ---- a list of records
+
+first-granted : (a b : Said) → firstOf a b ≡ Granted → a ≡ Granted
+unfolding firstOf
+first-granted Granted b e = refl
+first-granted (Refused why) b e = let z : _≡_ {A = ℕ} 0 1 = cc in absurd (omega arith)
+
+laid-granted : (good : Bool) (next : Said) → laidOut good next ≡ Granted → good ≡ true
+unfolding laidOut
+laid-granted true next e = refl
+laid-granted false next e = let z : _≡_ {A = ℕ} 0 1 = cc in absurd (omega arith)
+
+-- the list is short
+pub opened-short : (image records : List ℕ) → openedSaid image records ≡ Granted → length records ≤ 24000
+unfolding openedSaid recordsGiven
+opened-short image records e = leb-true _ _ (and-left _ _ (laid-granted _ _ (first-granted _ _ e)))
+
+-- a configuration has its six bytes
+pub config-room : (config : List ℕ) → configGiven config ≡ true → 6 ≤ length config
+config-room config e =
+    let six : length config ≡ 6 = eqb-true _ _ (and-left _ _ e) in
+    omega arith
+
+-- ---- what a list of records leaves, by its answer
+
+cond-same : {A : Type 0} (b : Bool) (x : A) → x ≡ cond b x x
+cond-same true x = refl
+cond-same false x = refl
+
+module _ (image records ram : List ℕ) where
+  abbrev text : List ℕ
+  text = textFrom (eventsOf records) (stateRead image .mmu) ram
+
+  -- refused: the line alone, and all else as it was
+  module _ {why : Refusal} (e : openedSaid image records ≡ Refused why) (out : List ℕ) where
+    pub records-refused : {r : Ran} {out′ : List ℕ} → r ≡ cond (ltb (length out) 11) TooShort (Wrote (length (refusedLine why)))
+        → out′ ≡ ranBuffer (ltb (length out) 11) out (refusedLine why)
+        → (r ≡ recordsRan image records ram (length out))
+        × (out′ ≡ ranBuffer (recordsShort image records (length out)) out (recordsText image records ram))
+        × (ram ≡ cond (recordsShort image records (length out)) ram (recordsRam image records ram))
+        × (image ≡ cond (recordsShort image records (length out)) image (recordsImage image records ram))
+    records-refused p q =
+        rw (
+          room-refused e (length records / 8),
+          text-refused e text,
+          end-refused e (endRam (eventsOf records) (stateRead image .mmu) ram) ram,
+          end-refused e (putState (endMmu (eventsOf records) (stateRead image .mmu) ram) image) image,
+        )
+        (p, q, cond-same (ltb (length out) 11) ram, cond-same (ltb (length out) 11) image)
+
+  -- granted: what the records leave
+  module _ (e : openedSaid image records ≡ Granted) (out : List ℕ) where
+    abbrev short : Bool
+    short = ltb (length out) (25 * (length records / 8) + 113)
+
+    pub records-granted : {r : Ran} {out′ ram′ image′ : List ℕ} → r ≡ cond short TooShort (Wrote (length text)) → out′ ≡ ranBuffer short out text
+        → ram′ ≡ cond short ram (endRam (eventsOf records) (stateRead image .mmu) ram)
+        → image′ ≡ cond short image (putState (endMmu (eventsOf records) (stateRead image .mmu) ram) image)
+        → (r ≡ recordsRan image records ram (length out))
+        × (out′ ≡ ranBuffer (recordsShort image records (length out)) out (recordsText image records ram))
+        × (ram′ ≡ cond (recordsShort image records (length out)) ram (recordsRam image records ram))
+        × (image′ ≡ cond (recordsShort image records (length out)) image (recordsImage image records ram))
+    records-granted p q s u =
+        rw (
+          room-granted e (length records / 8),
+          text-granted e text,
+          end-granted e (endRam (eventsOf records) (stateRead image .mmu) ram) ram,
+          end-granted e (putState (endMmu (eventsOf records) (stateRead image .mmu) ram) image) image,
+        )
+        (p, q, s, u)

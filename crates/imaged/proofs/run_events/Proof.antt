@@ -1,0 +1,66 @@
+-- `imaged::run_events` meets its contract: by what the list is refused with.
+use mathlib.Core.Path.{sym, _∙_}
+use Rattle.run.proofs.Laws.{end-refused, end-granted}
+use Rattle.imaged.proofs.Laws.{number-refused, number-granted}
+use borrow.Author.Needs.{needs}
+use Rattle.imaged.proofs.run_events.Statement.{statement}
+use Rattle.imaged.proofs.run_events.Tie as tie
+
+opened-requires : tie.Need-opened-requires
+opened-requires c κs = search needs
+
+enum-known-said : tie.Need-enum-known-said
+enum-known-said c = search needs
+
+number-requires : tie.Need-number-requires
+number-requires c κs = search needs
+
+enum-told : tie.Need-enum-told
+enum-told c = search needs
+
+run-events-requires : tie.Need-run-events-requires
+run-events-requires c κs = search needs
+
+put-state-requires : tie.Need-put-state-requires
+put-state-requires c κs = search needs
+
+same-length : tie.Need-same-length
+same-length c = search needs
+
+returns : tie.Need-returns
+returns c =
+    let s = c .before .before in
+    let e = sym (s .before .before .opened .ensures .0) ∙ s .said .given .1 in
+    (c .number .ensures ∙ sym (number-refused e), sym (end-refused e _ _), sym (end-refused e _ _))
+
+same-length-2 : tie.Need-same-length-2
+same-length-2 c = search needs
+
+same-length-3 : tie.Need-same-length-3
+same-length-3 c = search needs
+
+returns-2 : tie.Need-returns-2
+returns-2 c =
+    let p = c .before .before in
+    let f = p .before .before .before .before in
+    let t = f .before .before .before in
+    let o = t .before .before in
+    let e = sym (o .opened .ensures .0) ∙ t .enum-told .given .1 in
+    let g = rw (o .opened .ensures .1) at (f .run-events .ensures) in
+    (sym (number-granted e), rw (g .0) at (p .put-state .ensures .1) ∙ sym (end-granted e _ _), g .1 ∙ sym (end-granted e _ _))
+
+pub run-events-spec : {M : Type 1} → statement M
+run-events-spec =
+    tie.close
+    (tie.spec
+    opened-requires
+    enum-known-said
+    number-requires
+    enum-told
+    run-events-requires
+    put-state-requires
+    same-length
+    returns
+    same-length-2
+    same-length-3
+    returns-2)
