@@ -119,6 +119,7 @@ entryPermits e q = allows (q .kind) (e .perms) && openTo (q .mode) (e .perms)
 
 -- "a found entry that permits the access is a hit"; "A found entry that forbids the access .. is a page fault, no hit and no miss".
 -- "an old one's page bits are the new offset plus its class"
+-- "Stall is the hit latency or the miss penalty"
 unfoldable pub foundServed : Mmu → TlbEntry → Access → Served
 foundServed m e q =
     cond (entryPermits e q)

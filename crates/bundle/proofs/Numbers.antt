@@ -67,7 +67,7 @@ mib-number zero mib h e = sym (eqb-true mib 0 e)
 mib-number (suc n) mib h e = rw (eqb·suc-zero n) (signed-bits mib h)
 
 -- a flag's part of a number
-flag-bit : (n b : ℕ) → flag n (bit n b) ≡ b / 2 ^ n % 2 * 2 ^ n
+pub flag-bit : (n b : ℕ) → flag n (bit n b) ≡ b / 2 ^ n % 2 * 2 ^ n
 unfolding bit
 flag-bit n b = go (digit (b / 2 ^ n % 2) (mod-lt (b / 2 ^ n) (lit< tt)))
   where

@@ -129,6 +129,6 @@ abbrev pub answer : Bool → Parts → Reading
 answer good p =
     cond good (record { said = Granted; parts = p }) (record { said = Refused BadLayout; parts = noParts })
 
--- 8 "exactly when the bundle breaks its layout"
+-- 8, "given exactly when": "the bundle breaks its layout"
 unfoldable pub readOf : List ℕ → Reading
 readOf s = answer (goodOf s) (partsOf s)

@@ -1,15 +1,16 @@
 -- The claims of specs/Claims.antt, one proof each.
-use Prim.Native.Nat.{ℕ, zero, suc, _≤_}
+use Prim.Native.Nat.{ℕ, zero, suc, _%_, _≤_}
 use mathlib.Core.Path.{_≡_, refl}
 use mathlib.Core.Bool.{true}
+use native.Mathlib.Nat.{mod-lt}
 use native.Mathlib.Omega.{arith}
 use lib.Dec.{lit≤}
-use lib.ListN.{replicate}
+use lib.ListN.{getD, replicate}
 use Rattle.entry.specs.Entry.{blank}
 use Rattle.entry.specs.declared.TlbEntry.{TlbEntry}
 use Rattle.entry.proofs.Laws.{entries-sets, sets-some}
 use Rattle.slots.specs.Slots.{entryAt}
-use Rattle.tlb.specs.Cache.{Cache, victimIn}
+use Rattle.tlb.specs.Cache.{Cache, clockIn, victimIn}
 use Rattle.tlb.specs.State.{Fit, tlbFits, withCache, shapeOf, cacheOf, tlbNew, tlbReconfigure, tlbSetScheme, tlbProbe, tlbInstall, tlbFlush, tlbFlushPage, tlbFlushVaddr}
 use Rattle.tlb.specs.declared.Tlb.{Tlb}
 use Rattle.tlb.proofs.Fitness.{tlb-fit, fit-tlb}
@@ -20,7 +21,7 @@ use Rattle.caches.proofs.Rooms.{SameRoom, install-room, probe-room, flu
 use Rattle.caches.proofs.Finds.{probe-entry}
 use Rattle.caches.proofs.Past as past
 use Rattle.caches.proofs.Ages.{smallest, greatest}
-use Rattle.caches.proofs.Rounds.{clock-clear, clock-more}
+use Rattle.caches.proofs.Rounds.{clock-takes, clock-clear, clock-more}
 use Rattle.caches.proofs.Visits.{find-once, clear-once}
 
 blank-at : (n i : ℕ) → entryAt (replicate n blank) i ≡ blank
@@ -205,6 +206,12 @@ unfolding victimIn
 victims group start ways c h k =
     let low = smallest (c .slots) start ways h k in
     (low, low, low, greatest (c .slots) start ways h k, refl)
+
+pub clock-victim : claim.ClockVictim
+unfolding victimIn clockIn
+clock-victim group start ways c h k =
+    let hand = getD (c .hands) group 0 % ways in
+    (_, (clock-takes start ways hand (mod-lt (getD (c .hands) group 0) h) (c .slots) k, refl, refl))
 
 pub clock-ends : claim.ClockEnds
 clock-ends start ways hand es h k = clock-clear start ways hand h es k

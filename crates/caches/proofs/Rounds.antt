@@ -1,5 +1,5 @@
 -- The clock's search ends within a round: the slots it passed are clear, so after a whole round the next one is.
-use Prim.Native.Nat.{ℕ, zero, suc, _+_, _%_, _≤_, _<_}
+use Prim.Native.Nat.{ℕ, zero, suc, _+_, _-_, _%_, _≤_, _<_}
 use mathlib.Core.Path.{_≡_, refl, sym, ap, _∙_}
 use mathlib.Core.Bool.{Bool, true, false}
 use mathlib.Core.List.{List}
@@ -7,10 +7,13 @@ use mathlib.Core.Logic.{_⊎_, ⊎-elim}
 use native.Mathlib.Nat.{mod-lt, mod-eq-of-lt, add-mod-right, mod-add-mod, eq-or-lt-of-le, not-suc-le-zero, le-of-suc-le-suc}
 use native.Mathlib.Omega.{arith}
 use lib.ListN.{length, set, length-set}
-use lib.Seq.{getD-set-same}
+use lib.Dec.{ltb}
+use lib.Seq.{getD-set-same, getD-set-other}
+use borrow.Author.Tests.{ltb-true, ltb-false}
 use Rattle.entry.specs.Entry.{blank, unreferencedOf}
 use Rattle.entry.specs.declared.TlbEntry.{TlbEntry}
 use Rattle.slots.specs.Slots.{entryAt, clockFrom}
+use Rattle.caches.specs.Terms.{FirstClear}
 use Rattle.caches.proofs.Kept.{at-set}
 
 abbrev bitAt : List TlbEntry → ℕ → Bool
@@ -88,6 +91,69 @@ module _ (start ways from : ℕ) (some : from < ways) where
       go true h r = record { clear = rw (step k m es h) (r .clear); more = more-steps k m es h r }
       go false h r = ends-here (suc k) m es h
 
+  -- the places of a round are apart
+  place-low : (m : ℕ) → from + m < ways → place m ≡ from + m
+  place-low m h = mod-eq-of-lt h
+
+  place-high : (m : ℕ) → ways ≤ from + m → m < ways → place m + ways ≡ from + m
+  place-high m h l =
+      let back : from + m ≡ from + m - ways + ways = omega arith in
+      let e : place m ≡ from + m - ways = ap (λ (x : ℕ). x % ways) back ∙ add-mod-right (from + m - ways) ways ∙ mod-eq-of-lt (omega arith) in
+      omega arith
+
+  apart : (m d : ℕ) → m < d → d < ways → place m ≡ place d → ⊥
+  apart m d h l e = go (ltb (from + m) ways) refl (ltb (from + d) ways) refl
+    where
+      go : (a : Bool) → ltb (from + m) ways ≡ a → (b : Bool) → ltb (from + d) ways ≡ b → ⊥
+      go true p true q = omega (arith, place-low m (ltb-true _ _ p), place-low d (ltb-true _ _ q))
+      go true p false q = omega (arith, place-low m (ltb-true _ _ p), place-high d (ltb-false _ _ q) l)
+      go false p true q = omega (arith, ltb-false (from + m) ways p, ltb-true (from + d) ways q)
+      go false p false q = omega (arith, place-high m (ltb-false _ _ p) (omega arith), place-high d (ltb-false _ _ q) l)
+
+  -- what a search of k steps takes that has passed m slots, whose bits were set, over the slots us, which are es but for the bits passed
+  takes : (es : List TlbEntry) (k m : ℕ) (us : List TlbEntry) → m + k ≡ ways
+      → ((d : ℕ) → m ≤ d → d < ways → bitAt us (start + place d) ≡ bitAt es (start + place d))
+      → ((d : ℕ) → d < m → bitAt es (start + place d) ≡ true)
+      → FirstClear es start ways from (clockFrom k start ways (place m) us .at)
+  unfolding clockFrom
+  takes es zero m us q same set-before = record {
+    passed = m;
+    most = omega arith;
+    next = refl;
+    were-set = set-before;
+    is-clear = λ h. absurd (omega arith);
+  }
+  takes es (suc k) m us q same set-before =
+      go (bitAt us (start + place m)) refl
+      (λ h. takes es k (m + 1) (swept us (start + place m)) (omega arith) (still h) (before h))
+    where
+      here-same : bitAt us (start + place m) ≡ bitAt es (start + place m)
+      here-same = same m (omega arith) (omega arith)
+
+      still : bitAt us (start + place m) ≡ true → (d : ℕ) → m + 1 ≤ d → d < ways → bitAt (swept us (start + place m)) (start + place d) ≡ bitAt es (start + place d)
+      still h d low high =
+          ap (λ (e : TlbEntry). e .«ref_bit») (getD-set-other us (start + place m) (start + place d) _ blank (λ e. apart m d (omega arith) high (omega (arith, e))))
+          ∙ same d (omega arith) high
+
+      before : bitAt us (start + place m) ≡ true → (d : ℕ) → d < m + 1 → bitAt es (start + place d) ≡ true
+      before h d l =
+          ⊎-elim
+          (λ w. rw w (sym here-same ∙ h))
+          (λ s. set-before d s)
+          (eq-or-lt-of-le {n = d} {m = m} (omega arith))
+
+      go : (b : Bool) → bitAt us (start + place m) ≡ b
+          → (bitAt us (start + place m) ≡ true → FirstClear es start ways from (clockFrom k start ways (place (m + 1)) (swept us (start + place m)) .at))
+          → FirstClear es start ways from (clockFrom (suc k) start ways (place m) us .at)
+      go true h r = rw (step k m us h) (r h)
+      go false h r = rw (stay (suc k) start ways (place m) us h) (record {
+        passed = m;
+        most = omega arith;
+        next = refl;
+        were-set = set-before;
+        is-clear = λ l. sym here-same ∙ h;
+      })
+
   -- from the start, where none is passed
   module _ (es : List TlbEntry) (long : start + ways ≤ length es) where
     here : place 0 ≡ from
@@ -95,6 +161,9 @@ module _ (start ways from : ℕ) (some : from < ways) where
 
     whole : Ends ways 0 es
     whole = ends ways 0 es (omega arith) long (λ d h. absurd (not-suc-le-zero h))
+
+    pub clock-takes : FirstClear es start ways from (clockFrom ways start ways from es .at)
+    clock-takes = rw here at (takes es ways 0 es (omega arith) (λ d l h. refl) (λ d h. absurd (not-suc-le-zero h)))
 
     pub clock-clear : bitAt (clockFrom ways start ways from es .entries) (start + clockFrom ways start ways from es .at) ≡ false
     clock-clear = rw here at (whole .clear)

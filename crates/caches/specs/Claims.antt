@@ -3,17 +3,17 @@ use Prim.Native.Nat.{ℕ, _+_, _%_, _≤_, _<_}
 use mathlib.Core.Path.{_≡_}
 use mathlib.Core.Bool.{true, false}
 use mathlib.Core.List.{List, []}
-use lib.ListN.{length}
+use lib.ListN.{length, getD, set}
 use Rattle.entry.specs.Geometry.{entriesFor}
 use Rattle.entry.specs.declared.TlbEntry.{TlbEntry}
 use Rattle.entry.specs.declared.TlbConfig.{TlbConfig}
-use Rattle.entry.specs.declared.ReplacementPolicy.the-variants.{Lru, Mru, Fifo, Lfu, Random}
+use Rattle.entry.specs.declared.ReplacementPolicy.the-variants.{Lru, Mru, Fifo, Lfu, Clock, Random}
 use Rattle.slots.specs.Slots.{entryAt, clockFrom}
 use Rattle.tlb.specs.Cache.{Cache, Shape, victimIn, findFrom, clearSets}
 use Rattle.tlb.specs.State.{Geo, tlbFits, tlbNew, tlbReconfigure, tlbSetScheme, tlbProbe, tlbInstall, tlbFlush, tlbFlushPage, tlbFlushVaddr}
 use Rattle.tlb.specs.declared.Tlb.{Tlb}
 use Rattle.tlb.specs.declared.Lookup.the-variants.{Found}
-use Rattle.caches.specs.Terms.{Said, saidBy, Holds, SameFrame, SameScheme, SamePast, EntryOf, FirstSmallest, LastGreatest, findOnce, clearOnce}
+use Rattle.caches.specs.Terms.{Said, saidBy, Holds, SameFrame, SameScheme, SamePast, EntryOf, FirstSmallest, LastGreatest, FirstClear, findOnce, clearOnce}
 
 -- "A state is fit when .. its geometry is what its config gives, at most 128 entries, .. and no entry's class is above 19": calls keep it so
 abbrev pub NewFits : Type 0
@@ -56,7 +56,7 @@ FlushPageSame = (t : Tlb) (vpn : ℕ) → SameScheme t (tlbFlushPage t vpn)
 abbrev pub FlushVaddrSame : Type 0
 FlushVaddrSame = (t : Tlb) (vaddr : ℕ) → SameScheme t (tlbFlushVaddr t vaddr)
 
--- "`set_scheme` keeps entries"
+-- `set_scheme` keeps the geometry
 abbrev pub SchemeSame : Type 0
 SchemeSame = (t : Tlb) (offset : ℕ) (masks : List ℕ) (n : ℕ) → SameFrame t (tlbSetScheme t offset masks n)
 
@@ -135,7 +135,15 @@ Victims = (group start ways : ℕ) (c : Cache) → 0 < ways → start + ways ≤
     LruVictim group start ways c × FifoVictim group start ways c × LfuVictim group start ways c ×
     MruVictim group start ways c × RandomVictim group start ways c
 
--- "Clock from the set's hand mod ways, clearing bits, taking the first clear one": the search ends at a slot whose bit is clear
+-- "Clock from the set's hand mod ways, clearing bits, taking the first clear one, hand one past it"
+abbrev pub ClockVictim : Type 0
+ClockVictim = (group start ways : ℕ) (c : Cache) → 0 < ways → start + ways ≤ length (c .slots) →
+    (at : ℕ)
+    × (FirstClear (c .slots) start ways (getD (c .hands) group 0 % ways) at
+    × (victimIn Clock group start ways c .at ≡ start + at)
+    × (victimIn Clock group start ways c .cache .hands ≡ set (c .hands) group ((at + 1) % ways)))
+
+-- the slot that is taken has its bit clear
 abbrev pub ClockEnds : Type 0
 ClockEnds = (start ways hand : ℕ) (es : List TlbEntry) → hand < ways → start + ways ≤ length es →
     entryAt (clockFrom ways start ways hand es .entries) (start + clockFrom ways start ways hand es .at) .«ref_bit» ≡ false

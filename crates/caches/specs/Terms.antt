@@ -1,5 +1,5 @@
 -- The words that the claims about the TLB use.
-use Prim.Native.Nat.{ℕ, _≤_, _<_}
+use Prim.Native.Nat.{ℕ, _+_, _%_, _≤_, _<_}
 use mathlib.Core.Path.{_≡_}
 use mathlib.Core.Bool.{Bool, true, false, cond, _||_}
 use mathlib.Core.List.{List, [], _∷_}
@@ -87,6 +87,15 @@ pub record LastGreatest (es : List TlbEntry) (start end at : ℕ) : Type 0 where
   pub high : at < end
   pub greatest : (j : ℕ) → start ≤ j → j < end → ageAt es j ≤ ageAt es at
   pub last : (j : ℕ) → at < j → j < end → ageAt es j < ageAt es at
+
+-- "from the set's hand .., taking the first clear one": so many slots are passed, whose bits are set, and the next one is taken; its bit is
+-- clear, or the whole round is passed and it is the one under the hand
+pub record FirstClear (es : List TlbEntry) (start ways hand at : ℕ) : Type 0 where
+  pub passed : ℕ
+  pub most : passed ≤ ways
+  pub next : at ≡ (hand + passed) % ways
+  pub were-set : (d : ℕ) → d < passed → entryAt es (start + (hand + d) % ways) .«ref_bit» ≡ true
+  pub is-clear : passed < ways → entryAt es (start + at) .«ref_bit» ≡ false
 
 unfoldable pub among : ℕ → List ℕ → Bool
 among n [] = false

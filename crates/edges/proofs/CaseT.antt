@@ -28,7 +28,7 @@ use Rattle.session.specs.Session.{startOf, endRam}
 use Rattle.order.specs.Runs.{accesses}
 use Rattle.order.specs.Plain.{passes, plainWalk, verdictMarks, earned, allMarks}
 use Rattle.order.specs.Claims.{Ready}
-use Rattle.order.proofs.Claims.{any-order}
+use Rattle.order.proofs.Claims.{any-order, start-is-empty}
 use Rattle.plan.specs.Map.{planOf, flagsOf, opens, sumFrom, room}
 use Rattle.plan.specs.Writes.{rowWrites, tableWrites}
 use Rattle.plan.specs.Levels.{roomAt}
@@ -142,7 +142,8 @@ module _ (start : List ℕ) (bytes : Bytes start) (t : Two start 0x1F 0x0010_001
   unfolding validOf okWidths total entriesFor powUp
   ends =
       let ready : Ready settingsT = record { valid = refl; four = refl } in
-      let run = any-order settingsT ready start bytes configT configT refl refl eventsT eventsT Perm·rfl in
+      let empty = start-is-empty settingsT ready configT refl in
+      let run = any-order settingsT start bytes _ _ empty empty eventsT eventsT Perm·rfl in
       rw (run .0 .ram) all-earned
 
 -- ---- the installed words

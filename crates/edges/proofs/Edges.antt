@@ -25,7 +25,7 @@ unfolding setsFor entriesFor powUp
 p4 = (refl, refl)
 
 pub p5 : P5
-unfolding entriesFor powUp
+unfolding entriesFor powUp newOf
 p5 = (refl, refl)
 
 pub p6 : P6

@@ -16,7 +16,7 @@ use Rattle.scheme.specs.declared.refusal.Said.the-variants.{Granted, Refused}
 use Rattle.walks.specs.Plain.{Bytes}
 use Rattle.entry.specs.Geometry.{entriesFor, setsFor, defaultConfig}
 use Rattle.entry.specs.declared.TlbConfig.{TlbConfig}
-use Rattle.mmu.specs.Calls.{roomFor, newOf}
+use Rattle.mmu.specs.Calls.{newOf}
 use Rattle.installer.specs.Install.{installSaid}
 use Rattle.maps.specs.Edges as maps
 use Rattle.edges.specs.CaseT.{mapT, windowT, zerosT, endT}
@@ -53,7 +53,7 @@ P4 = (entriesFor 32 3 ≡ 33) × (setsFor 32 3 ≡ 11)
 
 -- "P5 128 and 4: 128"
 abbrev pub P5 : Type 0
-P5 = (entriesFor 128 4 ≡ 128) × (roomFor (configOf 128 4) ≡ true)
+P5 = (entriesFor 128 4 ≡ 128) × (newOf (configOf 128 4) .said ≡ Granted)
 
 -- "P6 128 and 3: 129, refused"
 abbrev pub P6 : Type 0

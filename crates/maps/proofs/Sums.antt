@@ -111,6 +111,7 @@ module _ (s : PagingScheme) (m : PageMapSpec) (win : Window) (root : ℕ) (ram :
               r .ends
               ∙ ap (λ (y : ℕ). ended (End.Page (leafWord p ws y) (r .at)) k (0 + n)) (base-is p va n)
               ∙ ap (ended (End.Page (leafWord p ws b) (r .at)) k) (zero-add n);
+          word-is = refl;
           frame-is = ap (λ (y : ℕ). y * 2 ^ 12 % 2 ^ 32) (fields.ppn-is f (leafWord p ws b) (m .perms) (m .global) refl (fields.number-small x k small wide)) ∙ fields.frame-back x k small wide;
           perms-are = fields.perms-are f (leafWord p ws b) (m .perms) (m .global) refl;
           global-is = fields.global-is f (leafWord p ws b) (m .perms) (m .global) refl;

@@ -24,12 +24,12 @@ use Rattle.plan.specs.declared.MapRule.the-variants.{Relative, Absolute}
 use Rattle.plan.specs.declared.PageMapSpec.{PageMapSpec}
 use Rattle.plan.specs.declared.Plan.{Plan}
 use Rattle.plan.specs.declared.Window.{Window}
-use Rattle.plan.specs.Map.{planOf, tableBytes, slotBytes}
+use Rattle.plan.specs.Map.{planOf, tableBytes, slotBytes, leafWord}
 use Rattle.installer.specs.Install.{topEnd, refusalOf, NoneBefore7, installSaid, installRam}
 use Rattle.maps.specs.Edges.{map11, window11}
 use Rattle.maps.specs.Tables.{allTables, childTables, allWrites, slotsOf, wordsIn, Every, WrittenAt}
 use Rattle.maps.specs.Written.{Out, Distinct}
-use Rattle.maps.specs.Way.{withRule, baseOn, leafLevel, leafShift, leafFrame}
+use Rattle.maps.specs.Way.{withRule, baseOn, belowOn, leafLevel, leafShift, leafFrame}
 
 -- ---- where an address goes
 
@@ -40,6 +40,7 @@ pub record Reaches (s : PagingScheme) (m : PageMapSpec) (win : Window) (root : �
   pub at : ℕ
   pub ends : descentOf (installRam s m win root ram) (root / 4096) s va
       ≡ ended (End.Page word at) (leafShift (planOf s m win) va) (leafLevel (planOf s m win) va)
+  pub word-is : word ≡ leafWord (planOf s m win) (belowOn (planOf s m win) (leafLevel (planOf s m win) va)) (baseOn (planOf s m win) (leafLevel (planOf s m win) va) va)
   pub frame-is : frame sv32 (ppnOf word) ≡ leafFrame (planOf s m win) va
   pub perms-are : permsOf word ≡ m .perms
   pub global-is : globalBit word ≡ m .global

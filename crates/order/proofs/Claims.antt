@@ -1,15 +1,22 @@
 -- A proof of each statement in specs/Claims.antt.
-use Rattle.order.specs.Claims.{AnyOrder, EndBytes, NeverRefused, TalliesAddUp}
+use Rattle.order.specs.Claims.{AnyOrder, StartIsEmpty, EndBytes, CallsFit, NeverRefused, TalliesAddUp}
 use Rattle.order.proofs.Fit.{run-granted, run-fit}
 use Rattle.order.proofs.Order as order
+use Rattle.order.proofs.Calls as calls
 use Rattle.order.proofs.EndBytes as bytes
 use Rattle.order.proofs.Tallies as tallies
 
 pub any-order : AnyOrder
 any-order = order.any-order
 
+pub start-is-empty : StartIsEmpty
+start-is-empty = order.start-is-empty
+
 pub end-bytes : EndBytes
 end-bytes = bytes.end-bytes
+
+pub calls-fit : CallsFit
+calls-fit = calls.calls-fit
 
 pub never-refused : NeverRefused
 never-refused es m ram fit = (run-granted es m ram fit, run-fit es m ram fit)

@@ -105,8 +105,8 @@ module _ (s : Settings) (start : List ℕ) where
       then _ _ _ _ _ _ _ (earned-byte q ram long k) (all-byte k l (byteEarned s start q ram) (earned-length q ram ∙ long))
 
 pub end-bytes : EndBytes
-end-bytes s ready start small config room es =
-    rw (run-marked s start ready small config room es) (
+end-bytes s start small m h es =
+    rw (run-marked s start small m h es) (
       all-length s start _ start,
       λ k.
           let b = all-byte s start k _ start refl in

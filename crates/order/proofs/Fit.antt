@@ -28,11 +28,11 @@ use Rattle.order.proofs.Serves.{fit-valid, tlb-fits, fit-held, filled, 
 
 -- ---- a TLB that may take the place of m's
 
-record Sits (m : Mmu) (t : Tlb) : Type 0 where
-  fits : tlbFits t ≡ true
-  offset : t .«offset_bits» ≡ m .tlb .«offset_bits»
-  masks : t .«superpage_masks» ≡ m .tlb .«superpage_masks»
-  classes : t .«mask_count» ≡ m .tlb .«mask_count»
+pub record Sits (m : Mmu) (t : Tlb) : Type 0 where
+  pub fits : tlbFits t ≡ true
+  pub offset : t .«offset_bits» ≡ m .tlb .«offset_bits»
+  pub masks : t .«superpage_masks» ≡ m .tlb .«superpage_masks»
+  pub classes : t .«mask_count» ≡ m .tlb .«mask_count»
 
 sits-same : (m : Mmu) (t u : Tlb) → Sits m t → SameScheme t u → tlbFits u ≡ true → Sits m u
 sits-same m t u s e f = record { fits = f; offset = e .offset ∙ s .offset; masks = e .masks ∙ s .masks; classes = e .classes ∙ s .classes }
@@ -45,7 +45,7 @@ module _ (m : Mmu) (fit : fitOf m ≡ true) where
   sits-self : Sits m (m .tlb)
   sits-self = record { fits = tlb-fits m fit; offset = refl; masks = refl; classes = refl }
 
-  fit-with : (t : Tlb) → Sits m t → fitOf (withTlb m t) ≡ true
+  pub fit-with : (t : Tlb) → Sits m t → fitOf (withTlb m t) ≡ true
   unfolding fitOf
   fit-with t s = rw (fit-valid m fit, s .fits, s .offset, s .masks, s .classes) (fit-held m fit)
 

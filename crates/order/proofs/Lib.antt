@@ -5,6 +5,7 @@ pub mod Truth
 pub mod Serves
 pub mod Fit
 pub mod Steps
+pub mod Calls
 pub mod Order
 pub mod EndBytes
 pub mod Tallies

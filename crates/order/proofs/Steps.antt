@@ -10,6 +10,7 @@ use lib.Seq.{length-take-le, take-at}
 use borrow.Author.Tests.{leb-true, eqb-true, eq-eqb}
 use Rattle.scheme.specs.Satp.{asidOf}
 use Rattle.scheme.specs.Scheme.{total, okWidths, validOf, widthsOf, classes, padded}
+use Rattle.scheme.specs.declared.PagingScheme.{PagingScheme}
 use Rattle.bits.proofs.Bools.{and-right}
 use Rattle.scheme.proofs.Widths.{valid}
 use Rattle.scheme.proofs.Classes.{length-classes}
@@ -21,7 +22,7 @@ use Rattle.walk.specs.declared.Verdict.{Verdict}
 use Rattle.entry.specs.Entry.{matchesOf}
 use Rattle.entry.specs.declared.TlbEntry.{TlbEntry}
 use Rattle.entry.specs.declared.TlbConfig.{TlbConfig}
-use Rattle.tlb.specs.State.{tlbNew, tlbSetScheme, tlbInstall}
+use Rattle.tlb.specs.State.{tlbNew, tlbSetScheme, tlbInstall, tlbFits}
 use Rattle.tlb.specs.declared.Tlb.{Tlb}
 use Rattle.tlb.specs.declared.Lookup.the-variants.{Found}
 use Rattle.caches.specs.Terms.{Said, saidBy, Holds, EntryOf}
@@ -61,9 +62,25 @@ alike-self [] = refl
 alike-self (x ∷ xs) = rw (eq-eqb x x refl) (alike-self xs)
 
 -- a new state is fit, if its entries have room
-new-fit : (config : TlbConfig) → roomFor config ≡ true → fitOf (stateNew config) ≡ true
+pub new-fit : (config : TlbConfig) → roomFor config ≡ true → fitOf (stateNew config) ≡ true
 unfolding fitOf stateNew tlbNew validOf okWidths total classes alike
 new-fit config room = rw (new-fits config (leb-true _ 128 room))
+
+-- and a fit state stays so under another scheme
+pub adopted-fit : (m : Mmu) (s : PagingScheme) → validOf s ≡ true → length (s .«level_bits») ≡ 4 → tlbFits (m .tlb) ≡ true → fitOf (withScheme m s) ≡ true
+unfolding fitOf withScheme tlbSetScheme
+adopted-fit m s v four t =
+    let ws = widthsOf s in
+    let few : s .levels ≤ length (s .«level_bits») = rw four (valid s v .four) in
+    let long : length (classes ws) ≡ s .levels = length-classes ws ∙ length-take-le (s .levels) (s .«level_bits») few in
+    rw (
+      v,
+      scheme-fits (m .tlb) (s .«offset_bits») (padded (classes ws)) (s .levels) t,
+      eq-eqb (s .«offset_bits») (s .«offset_bits») refl,
+      eq-eqb (s .levels) (s .levels) refl,
+      take-at (classes ws) _ (s .levels) long,
+    )
+    (alike-self (classes ws))
 
 module _ (s : Settings) (config : TlbConfig) (r : Ready s) (room : roomFor config ≡ true) where
   -- nothing of the set-up is refused
@@ -80,21 +97,8 @@ module _ (s : Settings) (config : TlbConfig) (r : Ready s) (room : roomFor confi
   start-holds P = rw start-is (scheme-holds P (tlbNew config) _ _ _ (new-holds P config))
 
   pub start-fit : fitOf (startOf config s) ≡ true
-  unfolding fitOf withScheme stateNew tlbSetScheme
-  start-fit =
-      let sch = s .scheme in
-      let ws = widthsOf sch in
-      let few : sch .levels ≤ length (sch .«level_bits») = rw (r .four) (valid sch (r .valid) .four) in
-      let long : length (classes ws) ≡ sch .levels = length-classes ws ∙ length-take-le (sch .levels) (sch .«level_bits») few in
-      rw (
-        start-is,
-        r .valid,
-        scheme-fits (tlbNew config) (sch .«offset_bits») (padded (classes ws)) (sch .levels) (new-fits config (leb-true _ 128 room)),
-        eq-eqb (sch .«offset_bits») (sch .«offset_bits») refl,
-        eq-eqb (sch .levels) (sch .levels) refl,
-        take-at (classes ws) _ (sch .levels) long,
-      )
-      (alike-self (classes ws))
+  unfolding fitOf stateNew
+  start-fit = rw start-is (adopted-fit (stateNew config) (s .scheme) (r .valid) (r .four) (new-fits config (leb-true _ 128 room)))
 
 -- ---- an access
 

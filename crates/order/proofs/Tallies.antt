@@ -27,7 +27,7 @@ use Rattle.access.specs.declared.Served.{Served}
 use Rattle.session.specs.Session.{stepMmu, stepRam, endMmu}
 use Rattle.session.specs.declared.Event.{Event}
 use Rattle.session.specs.declared.Event.the-variants.{Translate, Flush, FlushAt}
-use Rattle.order.specs.Tallies.{countOf, translated, forbids, foundFault, isAbsent, walks, isFault, walkFault, isNothing, takesVictim, leafVictim, evicts}
+use Rattle.order.specs.Tallies.{countOf, translated, permits, foundHit, forbids, foundFault, isAbsent, walks, isFault, walkFault, isNothing, takesVictim, leafVictim, evicts}
 use Rattle.order.specs.Claims.{Wraps, TalliesAddUp}
 use Rattle.order.proofs.Serves.{Consults, filled, Case, Passes, Hits, Forbids, Leads, Ends, translate-case}
 use Rattle.order.proofs.Fit.{flushed, flushed-at, event-fit}
@@ -121,8 +121,10 @@ module _ (t : Tlb) (e : TlbEntry) where
 
 -- ---- an access
 
--- what an access adds to the tallies st, where the tests say so: translated, a fault on a found entry, a faulting walk, a victim
-record Adds (st st′ : TlbStats) (tr ff wf ev : Bool) : Type 0 where
+-- what an access adds to the tallies st, where the tests say so: translated, a hit, a walk, a fault on a found entry, a faulting walk, a victim
+record Adds (st st′ : TlbStats) (tr hi wk ff wf ev : Bool) : Type 0 where
+  hits : Wraps (st′ .hits) (st .hits + one hi)
+  misses : Wraps (st′ .misses) (st .misses + one wk)
   accesses : Wraps (st′ .hits + st′ .misses + one ff) (st .hits + st .misses + one tr)
   faults : Wraps (st′ .«page_faults») (st .«page_faults» + one ff + one wf)
   evictions : Wraps (st′ .evictions) (st .evictions + one ev)
@@ -137,17 +139,20 @@ module _ (m : Mmu) (q : Access) (ram : List ℕ) (fit : fitOf m ≡ true) where
   unfolding translated
   on h = rw (fit, h)
 
-  abbrev AddsBy : TlbStats → Bool → Bool → Bool → Bool → Type 0
-  AddsBy st tr ff wf ev = Adds (m .tlb .stats) st tr ff wf ev
+  abbrev AddsBy : TlbStats → Bool → Bool → Bool → Bool → Bool → Bool → Type 0
+  AddsBy st tr hi wk ff wf ev = Adds (m .tlb .stats) st tr hi wk ff wf ev
 
   abbrev Added : TlbStats → Type 0
-  Added st = AddsBy st (translated m q ram) (foundFault m q ram) (walkFault m q ram) (evicts m q ram)
+  Added st =
+      AddsBy st (translated m q ram) (foundHit m q ram) (walks m q ram) (foundFault m q ram) (walkFault m q ram) (evicts m q ram)
 
   passed : bypassed m q ≡ true → Added (m .tlb .stats)
-  unfolding foundFault walkFault walks evicts
+  unfolding foundHit foundFault walkFault walks evicts
   passed h =
       let st = m .tlb .stats in
       rw (passes-off h) (record {
+        hits = wraps-none (st .hits);
+        misses = wraps-none (st .misses);
         accesses = refl;
         faults = wraps-is (st .«page_faults») (st .«page_faults» + 0 + 0) (omega arith);
         evictions = wraps-none (st .evictions);
@@ -155,39 +160,43 @@ module _ (m : Mmu) (q : Access) (ram : List ℕ) (fit : fitOf m ≡ true) where
 
   -- by what the TLB said
   consulted : (st : TlbStats) (t : Tlb) (k : Lookup) → bypassed m q ≡ false → consultOf m q ≡ record { lookup = k; mmu = withTlb m t }
-      → AddsBy st true (forbids q k) (isAbsent k && isFault (missWalk m q ram)) (isAbsent k && leafVictim (withTlb m t) q (missWalk m q ram))
+      → AddsBy st true (permits q k) (isAbsent k) (forbids q k) (isAbsent k && isFault (missWalk m q ram)) (isAbsent k && leafVictim (withTlb m t) q (missWalk m q ram))
       → Added st
-  unfolding foundFault walkFault walks evicts
+  unfolding foundHit foundFault walkFault walks evicts
   consulted st t k h e a =
       let v = missWalk m q ram in
       rw (on h)
-      (subst (λ (x : Consulted). AddsBy st true (forbids q (x .lookup)) (isAbsent (x .lookup) && isFault v) (isAbsent (x .lookup) && leafVictim (x .mmu) q v))
+      (subst (λ (x : Consulted). AddsBy st true (permits q (x .lookup)) (isAbsent (x .lookup)) (forbids q (x .lookup)) (isAbsent (x .lookup) && isFault v) (isAbsent (x .lookup) && leafVictim (x .mmu) q v))
       (sym e) a)
 
   -- a TLB that was asked, with so many hits, misses and faults more
-  counted : (t : Tlb) (k : Lookup) → Consults m q t k → (h n f : ℕ) (ff wf : Bool) → h + n + one ff ≡ 1 → f ≡ one ff + one wf
-      → AddsBy (tallied h n f t .stats) true ff wf false
+  counted : (t : Tlb) (k : Lookup) → Consults m q t k → (f : ℕ) (hi wk ff wf : Bool) → one hi + one wk + one ff ≡ 1 → f ≡ one ff + one wf
+      → AddsBy (tallied (one hi) (one wk) f t .stats) true hi wk ff wf false
   unfolding tallied
-  counted t k c h n f ff wf p r =
+  counted t k c f hi wk ff wf p r =
       rw (← (c .same .hits), ← (c .same .misses), ← (c .same .faults), ← (c .evictions)) (record {
-        accesses = sum-accesses (t .stats .hits) (t .stats .misses) h n (one ff) 1 p;
+        hits = wraps-mod (t .stats .hits + one hi);
+        misses = wraps-mod (t .stats .misses + one wk);
+        accesses = sum-accesses (t .stats .hits) (t .stats .misses) (one hi) (one wk) (one ff) 1 p;
         faults = sum-faults (t .stats .«page_faults») f (one ff) (one wf) r;
         evictions = wraps-none (t .stats .evictions);
       })
 
   -- a leaf that is installed, where the TLB is on
-  led-adds : (t : Tlb) (l : LeafAt) → Consults m q t Absent → AddsBy (filled m q l t .stats) true false false (m .«tlb_enabled» && takesVictim t (madeOf m q l))
+  led-adds : (t : Tlb) (l : LeafAt) → Consults m q t Absent → AddsBy (filled m q l t .stats) true false true false false (m .«tlb_enabled» && takesVictim t (madeOf m q l))
   unfolding tlbInstall tallied takesVictim
   led-adds t l c = go (m .«tlb_enabled»)
     where
       u : Tlb
       u = tallied 0 1 0 t
 
-      a : AddsBy (u .stats) true false false false
-      a = counted t Absent c 0 1 0 false false refl refl
+      a : AddsBy (u .stats) true false true false false false
+      a = counted t Absent c 0 false true false false refl refl
 
-      go : (b : Bool) → AddsBy (cond b (tlbInstall u (madeOf m q l)) u .stats) true false false (b && takesVictim t (madeOf m q l))
+      go : (b : Bool) → AddsBy (cond b (tlbInstall u (madeOf m q l)) u .stats) true false true false false (b && takesVictim t (madeOf m q l))
       go true = record {
+        hits = a .hits;
+        misses = a .misses;
         accesses = a .accesses;
         faults = a .faults;
         evictions = install-evicts u (madeOf m q l) ∙ ap (λ (x : ℕ). (x + one (takesVictim t (madeOf m q l))) % 2 ^ 64) (c .evictions);
@@ -197,10 +206,10 @@ module _ (m : Mmu) (q : Access) (ram : List ℕ) (fit : fitOf m ≡ true) where
   case-adds : (v : Served) (ram′ : List ℕ) → Case m q ram v ram′ → Added (v .mmu .tlb .stats)
   unfolding madeOf
   case-adds v ram′ (Passes h) = passed h
-  case-adds v ram′ (Hits h t e k c p) = consulted _ t (Found e) h k (rw p (counted t (Found e) c 1 0 0 false false refl refl))
-  case-adds v ram′ (Forbids h t e k c p) = consulted _ t (Found e) h k (rw p (counted t (Found e) c 0 0 1 true false refl refl))
+  case-adds v ram′ (Hits h t e k c p) = consulted _ t (Found e) h k (rw p (counted t (Found e) c 0 true false false false refl refl))
+  case-adds v ram′ (Forbids h t e k c p) = consulted _ t (Found e) h k (rw p (counted t (Found e) c 1 false false true false refl refl))
   case-adds v ram′ (Leads h t k c l e) = consulted _ t Absent h k (rw e (led-adds t l c))
-  case-adds v ram′ (Ends h t k c why level e) = consulted _ t Absent h k (rw e (counted t Absent c 0 1 1 false true refl refl))
+  case-adds v ram′ (Ends h t k c why level e) = consulted _ t Absent h k (rw e (counted t Absent c 1 false true false true refl refl))
 
 -- ---- a flush adds nothing
 
@@ -216,6 +225,8 @@ flush-at-stats t va = refl
 
 -- what a run adds to the tallies st
 record Sums (st : TlbStats) (es : List Event) (m : Mmu) (ram : List ℕ) : Type 0 where
+  hits : Wraps (endMmu es m ram .tlb .stats .hits) (st .hits + countOf foundHit es m ram)
+  misses : Wraps (endMmu es m ram .tlb .stats .misses) (st .misses + countOf walks es m ram)
   accesses :
       Wraps
       (endMmu es m ram .tlb .stats .hits + endMmu es m ram .tlb .stats .misses + countOf foundFault es m ram)
@@ -228,6 +239,8 @@ unfolding endMmu countOf
 sums [] m ram fit =
     let st = m .tlb .stats in
     record {
+      hits = wraps-none (st .hits);
+      misses = wraps-none (st .misses);
       accesses = refl;
       faults = wraps-is (st .«page_faults») (st .«page_faults» + 0 + 0) (omega arith);
       evictions = wraps-none (st .evictions);
@@ -241,6 +254,8 @@ sums (Translate q ∷ es) m ram fit =
     let a = case-adds m q ram fit _ _ (translate-case m q ram fit) in
     let r = sums es m′ ram′ (event-fit m fit ram (Translate q)) in
     record {
+      hits = then-counts (end .hits) (st′ .hits) _ (st .hits) _ (r .hits) (a .hits);
+      misses = then-counts (end .misses) (st′ .misses) _ (st .misses) _ (r .misses) (a .misses);
       accesses = then-accesses (end .hits + end .misses) _ (st′ .hits + st′ .misses) _ _ (st .hits + st .misses) _ (r .accesses) (a .accesses);
       faults = then-faults (end .«page_faults») (st′ .«page_faults») _ _ (st .«page_faults») _ _ (r .faults) (a .faults);
       evictions = then-counts (end .evictions) (st′ .evictions) _ (st .evictions) _ (r .evictions) (a .evictions);
@@ -249,18 +264,14 @@ sums (Flush ∷ es) m ram fit =
     let m′ = stepMmu Flush m ram in
     let same : m′ .tlb .stats ≡ m .tlb .stats = ap (λ (x : Mmu). x .tlb .stats) (flushed m fit) ∙ flush-stats (m .tlb) in
     let r = subst (λ (st : TlbStats). Sums st es m′ (stepRam Flush m ram)) same (sums es m′ _ (event-fit m fit ram Flush)) in
-    record { accesses = r .accesses; faults = r .faults; evictions = r .evictions }
+    record { hits = r .hits; misses = r .misses; accesses = r .accesses; faults = r .faults; evictions = r .evictions }
 sums (FlushAt va ∷ es) m ram fit =
     let m′ = stepMmu (FlushAt va) m ram in
     let same : m′ .tlb .stats ≡ m .tlb .stats = ap (λ (x : Mmu). x .tlb .stats) (flushed-at m fit va) ∙ flush-at-stats (m .tlb) va in
     let r = subst (λ (st : TlbStats). Sums st es m′ (stepRam (FlushAt va) m ram)) same (sums es m′ _ (event-fit m fit ram (FlushAt va))) in
-    record { accesses = r .accesses; faults = r .faults; evictions = r .evictions }
+    record { hits = r .hits; misses = r .misses; accesses = r .accesses; faults = r .faults; evictions = r .evictions }
 
 pub add-up : TalliesAddUp
-add-up es m ram fit h n =
+add-up es m ram fit =
     let r = sums es m ram fit in
-    record {
-      accesses = r .accesses ∙ wraps-is _ (countOf translated es m ram) (omega (arith, h, n));
-      faults = r .faults;
-      evictions = r .evictions;
-    }
+    record { hits = r .hits; misses = r .misses; accesses = r .accesses; faults = r .faults; evictions = r .evictions }

@@ -32,6 +32,15 @@ countOf f (FlushAt va ∷ es) m ram = countOf f es (stepMmu (FlushAt va) m ram) 
 unfoldable pub translated : Mmu → Access → List ℕ → Bool
 translated m q ram = fitOf m && not (bypassed m q)
 
+-- an entry that decides the access, and permits it
+abbrev pub permits : Access → Lookup → Bool
+permits q (Found e) = entryPermits e q
+permits q Absent = false
+
+-- "a found entry that permits the access is a hit"
+unfoldable pub foundHit : Mmu → Access → List ℕ → Bool
+foundHit m q ram = translated m q ram && permits q (consultOf m q .lookup)
+
 -- an entry that decides the access, and forbids it
 abbrev pub forbids : Access → Lookup → Bool
 forbids q (Found e) = not (entryPermits e q)
@@ -45,7 +54,7 @@ abbrev pub isAbsent : Lookup → Bool
 isAbsent (Found e) = false
 isAbsent Absent = true
 
--- an access that walks
+-- an access that walks: "All else is a miss"
 unfoldable pub walks : Mmu → Access → List ℕ → Bool
 walks m q ram = translated m q ram && isAbsent (consultOf m q .lookup)
 

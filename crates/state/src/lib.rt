@@ -30,7 +30,7 @@ fn same_classes(a: [u8; 4], b: [u8; 4], n: usize) -> bool
     ok
 }
 
-// Whether the state is one that the calls can have left.
+// Whether the state is fit, as document 01 says: ages, hands, ASIDs, VPNs and PPNs are free.
 pub fn fits(m: Mmu) -> bool
     ensures { λ r. ⌜ r ≡ fitOf m ⌝ }
 {

@@ -1,13 +1,18 @@
 -- A proof of each statement in specs/Claims.antt.
-use Prim.Native.Nat.{ℕ}
-use mathlib.Core.Path.{_≡_, refl, ap}
+use Prim.Native.Nat.{ℕ, _+_, _≤_, _<_}
+use mathlib.Core.Path.{_≡_, refl, sym, ap, _∙_}
 use mathlib.Core.Bool.{Bool, true, false, cond}
-use mathlib.Core.List.{List}
+use mathlib.Core.List.{List, Perm·rfl}
 use native.Mathlib.Omega.{arith}
-use lib.ListN.{length}
+use native.Mathlib.Nat.{le-trans, min-le-left}
+use lib.Dec.{eqb, ltb}
+use lib.ListN.{length, getD, take, drop, length-take, List·getD-eq-default}
+use lib.Seq.{getD-take, getD-drop, take-all, length-take-le}
+use borrow.Author.Tests.{ltb-true, ltb-false, eqb-true, eqb-false, le-ltb}
 use Rattle.scheme.specs.Scheme.{validOf}
+use Rattle.scheme.specs.declared.PagingScheme.{PagingScheme}
 use Rattle.scheme.specs.declared.refusal.Refusal.{Refusal}
-use Rattle.scheme.specs.declared.refusal.Refusal.the-variants.{BadScheme}
+use Rattle.scheme.specs.declared.refusal.Refusal.the-variants.{BadScheme, BadLayout}
 use Rattle.scheme.specs.declared.refusal.Said.{Said}
 use Rattle.scheme.specs.declared.refusal.Said.the-variants.{Granted, Refused}
 use Rattle.entry.specs.declared.TlbConfig.{TlbConfig}
@@ -16,13 +21,20 @@ use Rattle.state.specs.declared.Mmu.{Mmu}
 use Rattle.session.specs.Session.{settingsSaid}
 use Rattle.session.specs.declared.Settings.{Settings}
 use Rattle.order.specs.Claims.{Ready}
-use Rattle.order.proofs.Claims.{never-refused}
+use Rattle.walks.specs.Plain.{Bytes}
+use Rattle.order.proofs.Claims.{start-is-empty, any-order, never-refused}
 use Rattle.order.proofs.Steps.{start-fit}
-use Rattle.bundle.specs.Parts.{partsOf, readOf}
+use Rattle.maps.proofs.Claims.{bytes-stay}
+use Rattle.text.specs.Lines.{refusedLine}
+use Rattle.layout.specs.Layout.{mapLen, goodOf}
+use Rattle.layout.proofs.Fits.{good-fits}
+use Rattle.bundle.specs.Parts.{partsOf, answer, readOf}
+use Rattle.bundle.specs.declared.MapPart.{MapPart}
+use Rattle.bundle.specs.declared.MapPart.the-variants.{None, Map}
 use Rattle.bundle.specs.declared.Parts.{Parts}
-use Rattle.bundle.proofs.Claims.{granted-is-good}
-use Rattle.run.specs.Run.{firstOf}
-use Rattle.traces.specs.Claims.{eventsIn, ramIn, NothingRefused}
+use Rattle.bundle.proofs.Claims.{granted-is-good, parts-inside}
+use Rattle.run.specs.Run.{firstOf, printed, partsText, mapRam, partsIn, earlyIn, outputOf, roomOf}
+use Rattle.traces.specs.Claims.{eventsIn, ramIn, NothingRefused, EachIsPlain, BuffersFit, CutIsEnough}
 
 -- both of two answers are granted where the first refusal of them is none
 both : (a b : Said) → firstOf a b ≡ Granted → (a ≡ Granted) × (b ≡ Granted)
@@ -53,10 +65,93 @@ four : (s : List ℕ) → readOf s .said ≡ Granted → length (readOf s .parts
 unfolding partsOf
 four s e = ap (λ (p : Parts). length (p .settings .scheme .«level_bits»)) (granted-is-good s e .1)
 
+-- what the settings of a file that is not refused early are
+module _ (s : List ℕ) (e : earlyIn s ≡ Granted) where
+  ready : Ready (partsIn s .settings)
+  ready =
+      let h = both _ _ e in
+      record { valid = valid-new (partsIn s .config) (partsIn s .settings) (h .1) .0; four = four s (h .0) }
+
+  room : roomFor (partsIn s .config) ≡ true
+  room = new-room _ (valid-new (partsIn s .config) (partsIn s .settings) (both _ _ e .1) .1)
+
 pub nothing-refused : NothingRefused
-nothing-refused s e =
-    let h = both _ _ e in
-    let t = readOf s .parts .settings in
-    let v = valid-new (readOf s .parts .config) t (h .1) in
-    let ready : Ready t = record { valid = v .0; four = four s (h .0) } in
-    never-refused (eventsIn s) _ (ramIn s) (start-fit t (readOf s .parts .config) ready (new-room _ (v .1)))
+nothing-refused s e = never-refused (eventsIn s) _ (ramIn s) (start-fit (partsIn s .settings) (partsIn s .config) (ready s e) (room s e))
+
+-- ---- the answers
+
+take-short : (n : ℕ) (l : List ℕ) (k : ℕ) → n ≤ k → length (take n l) ≤ k
+take-short n l k h = rw (length-take n l) (le-trans (min-le-left n (length l)) h)
+
+-- a part of some bytes is bytes
+part-bytes : (n m : ℕ) (s : List ℕ) → Bytes s → Bytes (take n (drop m s))
+part-bytes n m s small k = go (ltb k n) refl
+  where
+    go : (b : Bool) → ltb k n ≡ b → getD (take n (drop m s)) k 0 < 256
+    go true e = rw (getD-take n (drop m s) k 0 (ltb-true k n e), getD-drop m s k 0) (small (m + k))
+    go false e = rw (List·getD-eq-default (take n (drop m s)) 0 {n = k} (take-short n (drop m s) k (ltb-false k n e))) (omega arith)
+
+map-bytes : (s : PagingScheme) (m : MapPart) (ram : List ℕ) → Bytes ram → Bytes (mapRam s m ram)
+map-bytes s None ram small = small
+map-bytes s (Map b) ram small = bytes-stay s (b .spec) (b .window) (b .root) ram small
+
+pub each-is-plain : EachIsPlain
+each-is-plain s small e =
+    let config = partsIn s .config in
+    let bytes = map-bytes (partsIn s .settings .scheme) (partsIn s .map) _ (part-bytes (partsIn s .«ram_len») (partsIn s .«ram_start») s small) in
+    let start = start-is-empty (partsIn s .settings) (ready s e) config (room s e) in
+    any-order (partsIn s .settings) (ramIn s) bytes _ _ start start (eventsIn s) (eventsIn s) Perm·rfl .0 .each
+
+-- ---- the program's buffers
+
+-- what is read is not too much for them
+few : (s : List ℕ) → (partsIn s .count ≤ 3000) × (partsIn s .«ram_len» ≤ 32768)
+unfolding readOf
+few s = go (goodOf s) refl
+  where
+    go : (b : Bool) → goodOf s ≡ b → (answer b (partsOf s) .parts .count ≤ 3000) × (answer b (partsOf s) .parts .«ram_len» ≤ 32768)
+    go true e = let h = parts-inside s e in (h .accesses-most, h .ram-most)
+    go false e = (omega arith, omega arith)
+
+room-most : (said : Said) (n : ℕ) → n ≤ 3000 → roomOf said n ≤ 75113
+unfolding roomOf
+room-most Granted n h = omega arith
+room-most (Refused why) n h = omega arith
+
+pub buffers-fit : BuffersFit
+buffers-fit s =
+    rw (
+      le-ltb 75113 (roomOf (earlyIn s) (partsIn s .count)) (room-most (earlyIn s) (partsIn s .count) (few s .0)),
+      le-ltb 32768 (partsIn s .«ram_len») (few s .1),
+    )
+
+-- ---- files that are too long
+
+-- a good file has at most 56,860 bytes
+good-short : (s : List ℕ) → goodOf s ≡ true → length s ≤ 56860
+good-short s e = go (eqb (mapLen s) 0) refl
+  where
+    go : (b : Bool) → eqb (mapLen s) 0 ≡ b → length s ≤ 56860
+    go true z = let f = good-fits s e in omega (arith, f .whole, f .ram-len, f .access-len, eqb-true (mapLen s) 0 z)
+    go false z = let f = good-fits s e in omega (arith, f .whole, f .ram-len, f .access-len, f .map-len (eqb-false (mapLen s) 0 z))
+
+long-bad : (s : List ℕ) → 56860 < length s → goodOf s ≡ false
+long-bad s h = go (goodOf s) refl
+  where
+    go : (b : Bool) → goodOf s ≡ b → b ≡ false
+    go true e = absurd (omega (arith, good-short s e))
+    go false e = refl
+
+bad-output : (s : List ℕ) → goodOf s ≡ false → outputOf s ≡ refusedLine BadLayout
+unfolding readOf partsText printed firstOf
+bad-output s e = rw e
+
+pub cut-is-enough : CutIsEnough
+cut-is-enough s = go (ltb 56861 (length s)) refl
+  where
+    go : (b : Bool) → ltb 56861 (length s) ≡ b → outputOf (take 56861 s) ≡ outputOf s
+    go true e =
+        let long = ltb-true 56861 (length s) e in
+        let cut = length-take-le 56861 s (omega arith) in
+        bad-output (take 56861 s) (long-bad (take 56861 s) (omega (arith, cut))) ∙ sym (bad-output s (long-bad s (omega arith)))
+    go false e = ap outputOf (take-all 56861 s (ltb-false 56861 (length s) e))

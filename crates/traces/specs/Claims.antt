@@ -1,15 +1,18 @@
 -- What holds of every bundle that is run. proofs/Claims.antt has a proof of each.
 use Prim.Native.Nat.{ℕ}
 use mathlib.Core.Path.{_≡_}
-use mathlib.Core.Bool.{true}
-use mathlib.Core.List.{List, []}
+use mathlib.Core.Bool.{true, false}
+use mathlib.Core.List.{List, [], map}
+use lib.ListN.{take}
 use Rattle.scheme.specs.declared.refusal.Said.the-variants.{Granted}
 use Rattle.state.specs.State.{fitOf}
 use Rattle.session.specs.Session.{endMmu}
 use Rattle.session.specs.declared.Event.{Event}
-use Rattle.order.specs.Runs.{refusals}
+use Rattle.walks.specs.Plain.{Bytes}
+use Rattle.order.specs.Runs.{accesses, answers, refusals}
+use Rattle.order.specs.Plain.{plainAnswer}
 use Rattle.steps.specs.Steps.{eventsFrom}
-use Rattle.run.specs.Run.{givenRam, mapRam, partsIn, startIn, earlyIn}
+use Rattle.run.specs.Run.{givenRam, mapRam, partsIn, startIn, earlyIn, outputOf, tooShort}
 
 -- what the bundle asks for
 abbrev pub eventsIn : List ℕ → List Event
@@ -25,3 +28,17 @@ abbrev pub NothingRefused : Type 0
 NothingRefused =
     (s : List ℕ) → earlyIn s ≡ Granted
     → (refusals (eventsIn s) (startIn s) (ramIn s) ≡ []) × (fitOf (endMmu (eventsIn s) (startIn s) (ramIn s)) ≡ true)
+
+-- the lines of the accesses tell what plain walks over the bundle's RAM answer, whatever its cache: demand 3, of a bundle
+abbrev pub EachIsPlain : Type 0
+EachIsPlain =
+    (s : List ℕ) → Bytes s → earlyIn s ≡ Granted
+    → answers (eventsIn s) (startIn s) (ramIn s) ≡ map (plainAnswer (partsIn s .settings) (ramIn s)) (accesses (eventsIn s))
+
+-- the program's buffers, 32,768 bytes for RAM and 75,113 for the output, fit every file
+abbrev pub BuffersFit : Type 0
+BuffersFit = (s : List ℕ) → tooShort s 32768 75113 ≡ false
+
+-- the program reads 56,861 bytes at most, one more than the longest good file has: what it prints is the whole file's output
+abbrev pub CutIsEnough : Type 0
+CutIsEnough = (s : List ℕ) → outputOf (take 56861 s) ≡ outputOf s

@@ -73,7 +73,7 @@ answerOf q (Fault why level) =
       answer = Err (record { cause = causeOf (q .kind); vaddr = q .vaddr });
     }
 
--- ---- the published walk: refusal 1 "exactly when the scheme is not valid", with RAM as it was
+-- ---- the published walk: refusal 1, "given exactly when": "the scheme is not valid", with RAM as it was
 
 unfoldable pub walkReply : PagingScheme → ℕ → List ℕ → Access → Reply
 walkReply s root ram q = cond (validOf s) (Done (answerOf q (walkOf s root ram q))) (Refused BadScheme)

@@ -1,4 +1,4 @@
--- What a search answers: refusal 1 "exactly when the scheme is not valid", and else the descent.
+-- What a search answers: refusal 1, "given exactly when": "the scheme is not valid", and else the descent.
 use Prim.Native.Nat.{ℕ}
 use mathlib.Core.List.{List}
 use mathlib.Core.Bool.{cond}

@@ -1,8 +1,8 @@
 -- A proof of each statement in specs/Claims.antt.
 use Prim.Native.Nat.{ℕ, _+_, _≤_, _<_}
-use native.Mathlib.Nat.{min-le-left, dvd-of-mod-eq-zero}
+use native.Mathlib.Nat.{min-le-left, dvd-of-mod-eq-zero, zero-add}
 use native.Mathlib.Omega.{arith}
-use mathlib.Core.Path.{_≡_, refl, subst}
+use mathlib.Core.Path.{_≡_, refl, subst, _∙_}
 use mathlib.Core.List.{List, [], _∷_}
 use lib.ListN.{length, length-take}
 use lib.Dec.{lit<}
@@ -14,7 +14,9 @@ use Rattle.walker.specs.declared.End.the-variants as End
 use Rattle.walker.proofs.Ends.{Read, OfPage, page-read, ends-within}
 use Rattle.walk.specs.Verdict.{judgeOf}
 use Rattle.walk.proofs.Judged.{end-page}
-use Rattle.walks.specs.Claims.{WordsWithin, LeafIsRead, MarksKeepVerdicts, MarksKeepDescents, BlocksEndAlike, BlockSizes, OursIsSound}
+use Rattle.walks.specs.Asked.{askedFor}
+use Rattle.walks.specs.Claims.{WordsWithin, WordsAsked, LeafIsRead, MarksKeepVerdicts, MarksKeepDescents, BlocksEndAlike, BlockSizes, OursIsSound}
+use Rattle.walks.proofs.Asked.{seek-asked}
 use Rattle.walks.proofs.Blocks.{descent-low, descent-high}
 use Rattle.walks.proofs.Blocks as blocks
 use Rattle.walks.proofs.Steady as steady
@@ -37,6 +39,12 @@ words-within s root ram q ok =
     let l = ends-within sv32 ram (q .vaddr) (s .«offset_bits») (widthsOf s) 0 root (length (widthsOf s)) (some-width s (valid s ok)) (omega arith) in
     let few : length (widthsOf s) ≤ s .levels = rw length-take (min-le-left _ _) in
     rw (words-at q d) (omega arith, omega arith)
+
+pub words-asked : WordsAsked
+words-asked f offset w ws root ram q =
+    words-at q (seek f ram (q .vaddr) offset (w ∷ ws) 0 root)
+    ∙ seek-asked f ram (q .vaddr) offset w ws 0 root
+    ∙ zero-add (length (askedFor f ram (q .vaddr) offset (w ∷ ws) root))
 
 pub leaf-is-read : LeafIsRead
 unfolding judgeOf

@@ -3,4 +3,5 @@ pub mod Steady
 pub mod Marks
 pub mod Verdicts
 pub mod Blocks
+pub mod Asked
 pub mod Claims

@@ -1,8 +1,9 @@
 -- What holds of every walk, for every table format, list of widths, RAM, asker and address. proofs/Claims.antt has a proof of each.
 use Prim.Native.Nat.{ℕ, _/_, _^_, _≤_, _<_}
 use mathlib.Core.Path.{_≡_}
-use mathlib.Core.List.{List}
+use mathlib.Core.List.{List, _∷_}
 use mathlib.Core.Bool.{true}
+use lib.ListN.{length}
 use Rattle.memory.specs.Word.{readable, leAt}
 use Rattle.scheme.specs.Scheme.{validOf}
 use Rattle.scheme.specs.declared.PagingScheme.{PagingScheme}
@@ -12,6 +13,7 @@ use Rattle.walk.specs.Verdict.{verdictIn, walkOf}
 use Rattle.walk.specs.declared.Access.{Access}
 use Rattle.walk.specs.declared.LeafAt.{LeafAt}
 use Rattle.walk.specs.declared.Verdict.the-variants.{Page}
+use Rattle.walks.specs.Asked.{askedFor}
 use Rattle.walks.specs.Plain.{plainDescent, plainVerdict, Bytes, Sound}
 
 -- a walk asks for at least one word, and "never more than the levels"
@@ -19,6 +21,12 @@ abbrev pub WordsWithin : Type 0
 WordsWithin =
     (s : PagingScheme) (root : ℕ) (ram : List ℕ) (q : Access) → validOf s ≡ true
     → (1 ≤ wordsOf (walkOf s root ram q)) × (wordsOf (walkOf s root ram q) ≤ s .levels)
+
+-- "the answer tells how many words were asked for"
+abbrev pub WordsAsked : Type 0
+WordsAsked =
+    (f : Format) (offset w : ℕ) (ws : List ℕ) (root : ℕ) (ram : List ℕ) (q : Access)
+    → wordsOf (verdictIn f offset (w ∷ ws) root ram q) ≡ length (askedFor f ram (q .vaddr) offset (w ∷ ws) root)
 
 -- an accepted leaf was readable, and is the word in RAM
 abbrev pub LeafIsRead : Type 0

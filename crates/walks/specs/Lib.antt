@@ -1,2 +1,3 @@
 pub mod Plain
+pub mod Asked
 pub mod Claims
