@@ -1,3 +1,4 @@
+use oracle::bundle::{Owed, owed, u32_at};
 use std::io::Write;
 use std::process::{Command, Stdio};
 
@@ -68,4 +69,25 @@ fn list_is_comparable() {
     let lines = replay(&stream);
     assert_eq!(lines.lines().filter(|l| l.starts_with("hits ")).count(), 300);
     assert!(!lines.contains("not comparable"));
+}
+
+/// The stored bundles have their answers from this program and from tools/cases/: the same files are refused, with the
+/// same numbers.
+#[test]
+fn stored_refusals() {
+    let stream = include_bytes!("../../crates/replay/stdin");
+    let mut lines = include_str!("../../crates/replay/stdout").lines();
+    let (mut at, mut refused) = (0, [0; 9]);
+    while at < stream.len() {
+        let end = at + 4 + u32_at(stream, at) as usize;
+        let first = lines.next().unwrap();
+        if let Owed::Refused(number) = owed(&stream[at + 4..end]) {
+            assert_eq!(first, format!("refused {number}"), "the bundle at {at}");
+            refused[number as usize] += 1;
+        } else {
+            assert!(first.starts_with("hits ") || lines.any(|l| l.starts_with("hits ")));
+        }
+        at = end;
+    }
+    assert!([1, 2, 4, 5, 6, 7, 8].iter().all(|&n| refused[n] > 0) && lines.next().is_none());
 }

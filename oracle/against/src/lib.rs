@@ -1,0 +1,4 @@
+//! What a program needs to hold our library to the bought Rust: its exported functions, and its states as bytes.
+
+pub mod image;
+pub mod ours;
