@@ -22,14 +22,12 @@ struct Lane {
     list: List,
     rust: Oracle,
     by_value: Side,
-    lent: Side,
     out: Vec<u8>,
     bundle_ram: Vec<u8>,
 }
 
-/// The columns; the last is None where the library has no calls on a lent state.
-const COLUMNS: [(&str, fn(&mut Lane) -> Option<u64>); 4] =
-    [("bought Rust", rust), ("ours, by value", by_value), ("ours, lent", lent), ("ours, run of a bundle", bundle)];
+const COLUMNS: [(&str, fn(&mut Lane) -> u64); 3] =
+    [("bought Rust", rust), ("ours, by value", by_value), ("ours, run of a bundle", bundle)];
 
 /// Nanoseconds of one call.
 fn timed<T>(call: impl FnOnce() -> T) -> (u64, T) {
@@ -38,48 +36,43 @@ fn timed<T>(call: impl FnOnce() -> T) -> (u64, T) {
     (start.elapsed().as_nanos() as u64, answer)
 }
 
-fn rust(lane: &mut Lane) -> Option<u64> {
+fn rust(lane: &mut Lane) -> u64 {
     let (rust, records) = (&mut lane.rust, &lane.list.records);
     let pass = || {
         for a in records.chunks_exact(8) {
             std::hint::black_box(rust.translate(u32_at(a, 0), a[4], a[5])).ok();
         }
     };
-    Some(timed(pass).0)
+    timed(pass).0
 }
 
-fn by_value(lane: &mut Lane) -> Option<u64> {
+fn by_value(lane: &mut Lane) -> u64 {
     let side = &mut lane.by_value;
     let (time, said) = timed(|| ours::events(&mut side.image, &lane.list.records, &mut side.ram));
     assert_eq!(said, 0);
-    Some(time)
+    time
 }
 
-fn lent(lane: &mut Lane) -> Option<u64> {
-    let side = &mut lane.lent;
-    let (time, said) = timed(|| ours::events_lent(&mut side.image, &lane.list.records, &mut side.ram));
-    assert_eq!(said?, 0);
-    Some(time)
-}
-
-fn bundle(lane: &mut Lane) -> Option<u64> {
+fn bundle(lane: &mut Lane) -> u64 {
     let (time, said) = timed(|| ours::run(&lane.list.bundle, &mut lane.bundle_ram, &mut lane.out));
     assert!(said.is_some_and(|n| n > 11));
-    Some(time)
+    time
 }
 
 impl Lane {
     fn new(list: List) -> Lane {
-        let side = || Side { image: list.image.clone(), ram: list.ram.clone() };
+        let by_value = Side { image: list.image.clone(), ram: list.ram.clone() };
         let (out, bundle_ram) = (vec![0; 25 * COUNT + 113], vec![0; list.ram.len()]);
-        Lane { rust: list.oracle(), by_value: side(), lent: side(), out, bundle_ram, list }
+        Lane { rust: list.oracle(), by_value, out, bundle_ram, list }
     }
 
     /// One pass that is not timed, and one that must give the hits and misses that the list is named for, on all sides.
     fn warm(&mut self) {
         let mut before = [0; 2];
         for owed in [None, Some(self.list.owed())] {
-            let lends = COLUMNS.iter().filter_map(|(_, pass)| pass(self)).count() == COLUMNS.len();
+            for (_, pass) in COLUMNS {
+                pass(self);
+            }
             let [hits, misses, ..] = self.rust.state().tallies;
             if let Some(owed) = owed {
                 assert_eq!([hits - before[0], misses - before[1]], owed, "{}", self.list.name);
@@ -88,7 +81,6 @@ impl Lane {
             let mut left = self.list.image.clone();
             image::put_state(&mut left, &self.rust.state());
             assert!(self.by_value.image == left, "{}: the states differ", self.list.name);
-            assert!(!lends || self.lent.image == left, "{}: the lent state differs", self.list.name);
         }
     }
 }
@@ -99,19 +91,16 @@ fn median(mut times: Vec<u64>) -> f64 {
 }
 
 /// The medians of each list's columns, for one pass.
-fn measured(lanes: &mut [Lane]) -> Vec<Vec<Option<f64>>> {
-    let mut times = vec![vec![Some(Vec::new()); COLUMNS.len()]; lanes.len()];
+fn measured(lanes: &mut [Lane]) -> Vec<Vec<f64>> {
+    let mut times = vec![vec![Vec::new(); COLUMNS.len()]; lanes.len()];
     for _ in 0..ROUNDS {
         for (lane, row) in lanes.iter_mut().zip(&mut times) {
             for ((_, pass), cell) in COLUMNS.iter().zip(row) {
-                match pass(lane) {
-                    Some(time) => cell.iter_mut().for_each(|c| c.push(time)),
-                    None => *cell = None,
-                }
+                cell.push(pass(lane));
             }
         }
     }
-    times.into_iter().map(|row| row.into_iter().map(|cell| cell.map(median)).collect()).collect()
+    times.into_iter().map(|row| row.into_iter().map(median).collect()).collect()
 }
 
 /// What a call costs besides its accesses.
@@ -130,14 +119,13 @@ fn main() {
     let mut lanes: Vec<Lane> = lists::all().into_iter().map(Lane::new).collect();
     lanes.iter_mut().for_each(Lane::warm);
     let rows = measured(&mut lanes);
-    let kept: Vec<usize> = (0..COLUMNS.len()).filter(|&k| rows[0][k].is_some()).collect();
     println!("{}; {ROUNDS} rounds, medians, ns for one access\n", machine());
     let cells = |texts: Vec<String>| println!("| {} |", texts.join(" | "));
-    let names = kept.iter().map(|&k| COLUMNS[k].0.to_string());
+    let names = COLUMNS.iter().map(|(name, _)| name.to_string());
     cells(["list".to_string(), "cache".to_string()].into_iter().chain(names).collect());
-    cells(vec!["---".to_string(); 2 + kept.len()]);
+    cells(vec!["---".to_string(); 2 + COLUMNS.len()]);
     for (lane, row) in lanes.iter().zip(&rows) {
-        let times = kept.iter().map(|&k| format!("{:.0}", row[k].unwrap() / COUNT as f64));
+        let times = row.iter().map(|time| format!("{:.0}", time / COUNT as f64));
         cells([lane.list.name.to_string(), lane.list.about()].into_iter().chain(times).collect());
     }
     println!("\nA call by value with no records: {:.0} ns", empty_call(&mut lanes[0]));

@@ -24,8 +24,6 @@ unsafe extern "C" {
         l: usize,
     ) -> usize;
     fn muntesulca_events(image: *mut u8, k: usize, records: *const u8, n: usize, ram: *mut u8, m: usize) -> u32;
-    #[cfg(lent)]
-    fn muntesulca_events_lent(image: *mut u8, k: usize, records: *const u8, n: usize, ram: *mut u8, m: usize) -> u32;
     fn muntesulca_set_scheme(image: *mut u8, k: usize, scheme: *const u8, n: usize) -> u32;
     fn muntesulca_reconfigure(image: *mut u8, k: usize, config: *const u8, n: usize) -> u32;
     fn muntesulca_install(scheme: *const u8, n: usize, map: *const u8, l: usize, ram: *mut u8, m: usize) -> u32;
@@ -91,20 +89,6 @@ pub fn records(image: &mut [u8], records: &[u8], ram: &mut [u8], out: &mut [u8])
 pub fn events(image: &mut [u8], records: &[u8], ram: &mut [u8]) -> u32 {
     let (r, n) = (records.as_ptr(), records.len());
     unsafe { muntesulca_events(image.as_mut_ptr(), image.len(), r, n, ram.as_mut_ptr(), ram.len()) }
-}
-
-/// The same by calls on a lent state, or None where the library does not have them.
-pub fn events_lent(image: &mut [u8], records: &[u8], ram: &mut [u8]) -> Option<u32> {
-    #[cfg(lent)]
-    return Some(unsafe {
-        let (r, n) = (records.as_ptr(), records.len());
-        muntesulca_events_lent(image.as_mut_ptr(), image.len(), r, n, ram.as_mut_ptr(), ram.len())
-    });
-    #[cfg(not(lent))]
-    {
-        let _ = (image, records, ram);
-        None
-    }
 }
 
 pub fn set_scheme(image: &mut [u8], scheme: &[u8]) -> u32 {

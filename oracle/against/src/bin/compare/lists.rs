@@ -110,23 +110,13 @@ impl Sides {
         differ::bytes("RAM", &ram, &self.ram)?;
         differ::images(&image, &self.image)?;
 
-        let by_value = |image: &mut [u8], ram: &mut [u8]| Some(ours::events(image, list, ram));
-        let lent = |image: &mut [u8], ram: &mut [u8]| ours::events_lent(image, list, ram);
-        self.without_text("events", refusal, before.clone(), ram_before.clone(), by_value)?;
-        self.without_text("events_lent", refusal, before, ram_before, lent)
+        self.without_text(list, refusal, before, ram_before)
     }
 
-    /// A call that leaves the same and gives no text; None where there is no such call.
-    fn without_text(
-        &self,
-        name: &str,
-        refusal: Option<u32>,
-        mut image: Vec<u8>,
-        mut ram: Vec<u8>,
-        call: impl Fn(&mut [u8], &mut [u8]) -> Option<u32>,
-    ) -> Same {
-        let Some(said) = call(&mut image, &mut ram) else { return Ok(()) };
-        let told = |e| format!("`{name}`, {e}");
+    /// `events`, which leaves the same and gives no text.
+    fn without_text(&self, list: &[u8], refusal: Option<u32>, mut image: Vec<u8>, mut ram: Vec<u8>) -> Same {
+        let said = ours::events(&mut image, list, &mut ram);
+        let told = |e| format!("`events`, {e}");
         differ::numbers("answer", said as u64, refusal.unwrap_or(0) as u64).map_err(told)?;
         differ::bytes("RAM", &ram, &self.ram).map_err(told)?;
         differ::images(&image, &self.image).map_err(told)
