@@ -20,7 +20,7 @@ use Rattle.plan.specs.declared.PageMapSpec.{PageMapSpec}
 use Rattle.plan.specs.declared.Plan.{Plan}
 use Rattle.plan.specs.declared.Window.{Window}
 use Rattle.plan.specs.Map.{planOf, flag, flagsOf}
-use Rattle.plan.specs.Writes.{written}
+use Rattle.plan.specs.Writes.{allWrites, written}
 use Rattle.plan.specs.Levels.{roomAt, tableAt, Fit, Good, At}
 use Rattle.plan.proofs.Laws.{is-valid, span-bound}
 use Rattle.plan.proofs.Rows.{table-in}
@@ -124,7 +124,7 @@ module _ (s : PagingScheme) (m : PageMapSpec) (win : Window) (root : ℕ) (ram :
       let t = granted s m win root (length ram) e in
       record { good = plan-good s m win f; fits = t .0 .fits; top = t .0 .top; space = t .1 }
 
-  pub laid : refusalOf s m win root (length ram) ≡ Said.Granted → installRam s m win root ram ≡ written 0 (tableAt (planOf s m win) 0 0 root) ram
+  pub laid : refusalOf s m win root (length ram) ≡ Said.Granted → installRam s m win root ram ≡ written 0 (allWrites (planOf s m win) root) ram
   unfolding installRam onGrant
   laid e = rw e
 
@@ -144,7 +144,8 @@ module _ (p : Plan) (root stop : ℕ) (xs : List ℕ) (g : Layable p root (lengt
   -- what is written there is written in RAM
   pub root-filled : (ys : List ℕ)
       → ys ≡ written 0 (tableAt p 0 0 (tablePa p 0 0 (length (take (stop - 0) (drop 0 xs))))) (take (stop - 0) (drop 0 xs))
-      → take 0 xs ++ (ys ++ drop (stop - 0) (drop 0 xs)) ≡ written 0 (tableAt p 0 0 root) xs
+      → take 0 xs ++ (ys ++ drop (stop - 0) (drop 0 xs)) ≡ written 0 (allWrites p root) xs
+  unfolding tableAt
   root-filled ys ey =
       let part = take (stop - 0) (drop 0 xs) in
       let pa-is : tablePa p 0 0 (length part) ≡ root = omega (arith, part-long) in

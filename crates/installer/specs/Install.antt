@@ -14,8 +14,8 @@ use Rattle.scheme.specs.declared.refusal.Refusal.the-variants.{BadScheme, RootU
 use Rattle.scheme.specs.declared.refusal.Said.{Said}
 use Rattle.scheme.specs.declared.refusal.Said.the-variants.{Granted, Refused}
 use Rattle.plan.specs.Map.{planOf, tableBytes}
-use Rattle.plan.specs.Writes.{written}
-use Rattle.plan.specs.Levels.{widthAt, roomAt, tableAt}
+use Rattle.plan.specs.Writes.{allWrites, written}
+use Rattle.plan.specs.Levels.{widthAt, roomAt}
 use Rattle.plan.specs.declared.PageMapSpec.{PageMapSpec}
 use Rattle.plan.specs.declared.Window.{Window}
 
@@ -47,7 +47,7 @@ refusalOf s m win root len =
     (refuseIf (ltb root (roomAt (planOf s m win) 0 0)) NoRoom
     Granted))))
 
--- none of 1, 4, 5, 6 is given
+-- none of 1, 4, 5, 6 is given, in plain numbers: the theorems on 7 speak of it, and hold `refusalOf` to it
 pub record NoneBefore7 (s : PagingScheme) (m : PageMapSpec) (root len : ℕ) : Type 0 where
   pub valid : validOf s ≡ true
   pub aligned : root % 4096 ≡ 0
@@ -66,4 +66,4 @@ onGrant (Refused why) new old = old
 -- RAM with every word of the map written, and as it was where the installer refuses
 unfoldable pub installRam : PagingScheme → PageMapSpec → Window → ℕ → List ℕ → List ℕ
 installRam s m win root ram =
-    onGrant (installSaid s m win root ram) (written 0 (tableAt (planOf s m win) 0 0 root) ram) ram
+    onGrant (installSaid s m win root ram) (written 0 (allWrites (planOf s m win) root) ram) ram

@@ -11,7 +11,7 @@ ghost use Prim.Native.Nat.{_≤_, _<_, _+_, _-_, _*_, _^_};
 ghost use lib.ListN.{length};
 ghost use Rattle.memory.specs.Word.{putAt};
 ghost use Rattle.plan.specs.Map.{tableBytes};
-ghost use Rattle.plan.specs.Writes.{written};
+ghost use Rattle.plan.specs.Writes.{allWrites, written};
 ghost use Rattle.plan.specs.Levels.{widthAt, entries, roomAt, entryRoomAt, tableAt, entryAt, Fit};
 ghost use Rattle.installer.specs.Install.{barred, refusalOf, installSaid, installRam};
 ghost use Rattle.installer.specs.Stretch.{tablePa, Room, Stretch, Layable};
@@ -124,7 +124,7 @@ fn first_refusal(
 // Fills the tables of a map that is not refused. All of them lie in the part of RAM that ends with the top table.
 fn lay_map(ram: &mut [u8], root_pa: u32, p: Plan)
     requires { ⌜ Layable p «root_pa» (length (now ram)) ⌝ }
-    ensures { λ _. ⌜ now (ram .exit) ≡ written 0 (tableAt p 0 0 «root_pa») (now (ram .entry)) ⌝ }
+    ensures { λ _. ⌜ now (ram .exit) ≡ written 0 (allWrites p «root_pa») (now (ram .entry)) ⌝ }
 {
     let s = p.scheme;
     let stop = root_pa as usize + plan::table_bytes(s, 0);

@@ -19,13 +19,13 @@ use Rattle.plan.specs.declared.PageMapSpec.{PageMapSpec}
 use Rattle.plan.specs.declared.Plan.{Plan}
 use Rattle.plan.specs.declared.Window.{Window}
 use Rattle.plan.specs.Map.{planOf, baseOf, opens, tableBytes, slotBytes, slotOf, sumFrom, entryRoom, room, leafWord, pointerWord}
-use Rattle.plan.specs.Writes.{Write, _≔_, entryWrites, rowWrites, tableWrites, written}
-use Rattle.plan.specs.Levels.{roomAt, tableAt}
+use Rattle.plan.specs.Writes.{Write, _≔_, entryWrites, rowWrites, tableWrites, allWrites, written}
+use Rattle.plan.specs.Levels.{roomAt}
 use Rattle.plan.proofs.Rows.{In, tables-in, tableOf, table-slot, entry-in}
 use Rattle.installer.specs.Install.{topEnd, installSaid, installRam}
 use Rattle.installer.proofs.Install.{granted, laid, not-laid}
 use Rattle.maps.specs.Written.{Out}
-use Rattle.maps.specs.Tables.{Opened, entryTables, rowTables, tablesOf, allTables, childTables, allWrites, slotsOf, Every}
+use Rattle.maps.specs.Tables.{Opened, entryTables, rowTables, tablesOf, allTables, childTables, slotsOf, Every}
 use Rattle.maps.proofs.Apart.{out-in, out-append, out-part, row-out}
 use Rattle.maps.proofs.Tables.{every-append, every-map, every-tail, children-slots, top-table}
 
@@ -41,7 +41,7 @@ byte-stays (w ∷ ws) xs k o =
 
 pub byte-same : (s : PagingScheme) (m : PageMapSpec) (win : Window) (root : ℕ) (ram : List ℕ) (k : ℕ) → Out k (k + 1) (allWrites (planOf s m win) root)
     → getD (installRam s m win root ram) k 0 ≡ getD ram k 0
-unfolding planOf tableAt
+unfolding planOf
 byte-same s m win root ram k o = go (installSaid s m win root ram) refl
   where
     go : (said : Said) → installSaid s m win root ram ≡ said → getD (installRam s m win root ram) k 0 ≡ getD ram k 0
@@ -56,11 +56,10 @@ written-bytes [] xs small = small
 written-bytes (w ∷ ws) xs small = written-bytes ws (putAt 4 xs (w .at - 0) (w .word)) (put-bytes 4 xs (w .at - 0) (w .word) small)
 
 pub bytes-same : (s : PagingScheme) (m : PageMapSpec) (win : Window) (root : ℕ) (ram : List ℕ) → Bytes ram → Bytes (installRam s m win root ram)
-unfolding tableAt
 bytes-same s m win root ram small = go (installSaid s m win root ram) refl
   where
     go : (said : Said) → installSaid s m win root ram ≡ said → Bytes (installRam s m win root ram)
-    go Granted e = rw (laid s m win root ram e) (written-bytes (tableAt (planOf s m win) 0 0 root) ram small)
+    go Granted e = rw (laid s m win root ram e) (written-bytes (allWrites (planOf s m win) root) ram small)
     go (Refused why) e = rw (not-laid s m win root ram why e) small
 
 -- ---- the child tables lie below their parents, each in its own room

@@ -17,8 +17,8 @@ use Rattle.plan.specs.declared.PageMapSpec.{PageMapSpec}
 use Rattle.plan.specs.declared.Plan.{Plan}
 use Rattle.plan.specs.declared.Window.{Window}
 use Rattle.plan.specs.Map.{planOf, shift, opens, hasLevel, slotOf, sumFrom, entryRoom, room, pointerWord}
-use Rattle.plan.specs.Writes.{Write, _≔_, entryWrites, rowWrites, tableWrites}
-use Rattle.plan.specs.Levels.{roomAt, tableAt}
+use Rattle.plan.specs.Writes.{Write, _≔_, entryWrites, rowWrites, tableWrites, allWrites}
+use Rattle.plan.specs.Levels.{roomAt}
 use Rattle.installer.specs.Install.{refusalOf, installSaid, installRam}
 use Rattle.maps.specs.Way.{withRule}
 use Rattle.maps.specs.Claims.{Agreeing, one-level, empty, low}
@@ -171,8 +171,8 @@ module _ (s : PagingScheme) (m : PageMapSpec) (win : Window) (root : ℕ) (ram :
   unfolding roomAt planOf
   rooms-same = room-agrees (planOf s m win) (widthsOf s) (shallow (planOf s m win) agreeing)
 
-  writes-same : tableAt (planOf s (withRule Absolute m) win) 0 0 root ≡ tableAt (planOf s (withRule Relative m) win) 0 0 root
-  unfolding tableAt planOf
+  writes-same : allWrites (planOf s (withRule Absolute m) win) root ≡ allWrites (planOf s (withRule Relative m) win) root
+  unfolding planOf
   writes-same = writes-agree (planOf s m win) (widthsOf s) root (shallow (planOf s m win) agreeing)
 
   pub said-same : installSaid s (withRule Absolute m) win root ram ≡ installSaid s (withRule Relative m) win root ram

@@ -27,7 +27,7 @@ use Rattle.plan.specs.declared.Plan.{Plan}
 use Rattle.plan.specs.declared.Window.{Window}
 use Rattle.plan.specs.Map.{planOf, inherited, hasLevel, opens, shift, tableBytes, leafWord}
 use Rattle.plan.specs.Writes.{tableWrites}
-use Rattle.plan.specs.Levels.{widthAt, roomAt, tableAt}
+use Rattle.plan.specs.Levels.{widthAt, roomAt}
 use Rattle.plan.proofs.Rows.{tableOf, tables-in, in-wider}
 use Rattle.installer.specs.Install.{NoneBefore7, installSaid, installRam}
 use Rattle.installer.proofs.Install.{flags-small, granted, laid}
@@ -73,7 +73,7 @@ module _ (s : PagingScheme) (m : PageMapSpec) (win : Window) (root : ℕ) (ram :
 
   -- the installed RAM holds every word of the map
   pub holds-all : Holds (installRam s m win root ram) (tableWrites (planOf s m win) (widthsOf s) 0 root)
-  unfolding planOf tableAt roomAt
+  unfolding planOf roomAt
   holds-all =
       let p = planOf s m win in
       let t = passes in

@@ -25,9 +25,10 @@ use Rattle.plan.specs.declared.PageMapSpec.{PageMapSpec}
 use Rattle.plan.specs.declared.Plan.{Plan}
 use Rattle.plan.specs.declared.Window.{Window}
 use Rattle.plan.specs.Map.{planOf, tableBytes, slotBytes, leafWord}
+use Rattle.plan.specs.Writes.{allWrites}
 use Rattle.installer.specs.Install.{topEnd, refusalOf, NoneBefore7, installSaid, installRam}
 use Rattle.maps.specs.Edges.{map11, window11}
-use Rattle.maps.specs.Tables.{allTables, childTables, allWrites, slotsOf, wordsIn, Every, WrittenAt}
+use Rattle.maps.specs.Tables.{allTables, childTables, slotsOf, wordsIn, Every, WrittenAt}
 use Rattle.maps.specs.Written.{Out, Distinct}
 use Rattle.maps.specs.Way.{withRule, baseOn, belowOn, leafLevel, leafShift, leafFrame}
 

@@ -8,7 +8,7 @@ use lib.ListN.{drop}
 use Rattle.scheme.specs.Scheme.{widthsOf}
 use Rattle.plan.specs.declared.Plan.{Plan}
 use Rattle.plan.specs.Map.{baseOf, opens, slotOf, slotBytes, entryRoom, room}
-use Rattle.plan.specs.Writes.{Write, tableWrites}
+use Rattle.plan.specs.Writes.{Write}
 
 -- a table: its address, and the bits of its index
 pub record Opened : Type 0 where
@@ -34,10 +34,6 @@ allTables p root = tablesOf p (widthsOf (p .scheme)) 0 root
 
 abbrev pub childTables : Plan → ℕ → List Opened
 childTables p root = drop 1 (allTables p root)
-
--- all words that are written for it
-abbrev pub allWrites : Plan → ℕ → List Write
-allWrites p root = tableWrites p (widthsOf (p .scheme)) 0 root
 
 -- the bytes of tables, "each rounded up to 4096"
 unfoldable pub slotsOf : List Opened → ℕ

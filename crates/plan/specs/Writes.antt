@@ -4,6 +4,7 @@ use Prim.Native.Nat.{ℕ, zero, suc, _+_, _-_, _*_, _^_}
 use mathlib.Core.Bool.{cond}
 use mathlib.Core.List.{List, [], _∷_, _++_}
 use Rattle.memory.specs.Word.{putAt}
+use Rattle.scheme.specs.Scheme.{widthsOf}
 use Rattle.plan.specs.declared.Plan.{Plan}
 use Rattle.plan.specs.Map.{baseOf, opens, slotOf, entryRoom, room, leafWord, pointerWord}
 
@@ -35,6 +36,10 @@ unfoldable pub tableWrites : Plan → List ℕ → ℕ → ℕ → List Write
 tableWrites p [] parent pa = []
 tableWrites p (w ∷ ws) parent pa =
     rowWrites p ws (λ b c. tableWrites p ws b c) (λ b. room p ws b) parent pa (2 ^ w) 0 pa
+
+-- all words that are written for a map whose top table is at root
+abbrev pub allWrites : Plan → ℕ → List Write
+allWrites p root = tableWrites p (widthsOf (p .scheme)) 0 root
 
 -- the writes, done in order to a stretch of RAM whose first byte has the address low
 unfoldable pub written : ℕ → List Write → List ℕ → List ℕ

@@ -4,8 +4,8 @@ use lib.ListN.{length}
 use denote.Ref.{now}
 use Rattle.scheme.specs.declared.refusal.Said.the-variants as Said
 use Rattle.plan.specs.declared.Plan.{Plan}
-use Rattle.plan.specs.Levels.{Fit, tableAt}
-use Rattle.plan.specs.Writes.{written}
+use Rattle.plan.specs.Levels.{Fit}
+use Rattle.plan.specs.Writes.{allWrites, written}
 use Rattle.installer.specs.Install.{refusalOf}
 use Rattle.installer.specs.Stretch.{Layable}
 use Rattle.installer.proofs.Install.{granted, may-lay, laid, not-laid}
@@ -46,7 +46,7 @@ same-length c = search needs
 returns-2 : tie.Need-returns-2
 returns-2 c = (
   sym (lets (c .before .before .before .before .before)),
-  c .before .before .lay-map .ensures ∙ ap (λ (p : Plan). written 0 (tableAt p 0 0 (c .before .before .before .before .before .before .before .before .before .args .root-pa)) (now (c .before .before .before .before .before .before .before .before .before .args .ram))) (c .before .before .before .plan-of .ensures) ∙ sym (laid (c .before .before .before .before .before .before .before .before .before .args .scheme) (c .before .before .before .before .before .before .before .before .before .args .spec) (c .before .before .before .before .before .before .before .before .before .args .window) (c .before .before .before .before .before .before .before .before .before .args .root-pa) (now (c .before .before .before .before .before .before .before .before .before .args .ram)) (lets (c .before .before .before .before .before))),
+  c .before .before .lay-map .ensures ∙ ap (λ (p : Plan). written 0 (allWrites p (c .before .before .before .before .before .before .before .before .before .args .root-pa)) (now (c .before .before .before .before .before .before .before .before .before .args .ram))) (c .before .before .before .plan-of .ensures) ∙ sym (laid (c .before .before .before .before .before .before .before .before .before .args .scheme) (c .before .before .before .before .before .before .before .before .before .args .spec) (c .before .before .before .before .before .before .before .before .before .args .window) (c .before .before .before .before .before .before .before .before .before .args .root-pa) (now (c .before .before .before .before .before .before .before .before .before .args .ram)) (lets (c .before .before .before .before .before))),
 )
 
 pub install-map-scheme-spec : {M : Type 1} → statement M
