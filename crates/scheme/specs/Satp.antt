@@ -11,9 +11,14 @@ use Rattle.scheme.specs.declared.satp.SatpMode.the-variants.{Bare, Sv32}
 abbrev pub satpWith : ℕ → Satp
 satpWith raw = record { raw = raw }
 
--- "bit 31 mode (0 Bare)"
+-- "mode (0 Bare)", and "mode 1" as `make_satp` has it
+abbrev pub modeBit : SatpMode → ℕ
+modeBit Bare = 0
+modeBit Sv32 = 1
+
+-- "bit 31 mode"
 abbrev pub modeOf : ℕ → SatpMode
-modeOf raw = cond (eqb (fieldOf 31 1 raw) 0) Bare Sv32
+modeOf raw = cond (eqb (fieldOf 31 1 raw) (modeBit Bare)) Bare Sv32
 
 -- "bits 30-22 ASID"
 abbrev pub asidOf : ℕ → ℕ
@@ -25,4 +30,4 @@ rootOf raw = raw % 2 ^ 22
 
 -- "mode 1, ASID mod 512, root / 4096"
 abbrev pub satpOf : ℕ → ℕ → ℕ
-satpOf root asid = 2 ^ 31 + asid % 512 * 2 ^ 22 + root / 4096
+satpOf root asid = modeBit Sv32 * 2 ^ 31 + asid % 512 * 2 ^ 22 + root / 4096
