@@ -8,7 +8,7 @@ use lib.Dec.{ltb}
 use lib.ListN.{length}
 use borrow.Author.Tests.{leb-true, eqb-true}
 use Rattle.bits.proofs.Bools.{and-left}
-use Rattle.scheme.specs.Refusals.{numberOf}
+use Rattle.scheme.specs.Refusals.{numberOf, onGrant}
 use Rattle.scheme.specs.declared.refusal.Refusal.{Refusal}
 use Rattle.scheme.specs.declared.refusal.Refusal.the-variants.{BadLayout}
 use Rattle.scheme.specs.declared.refusal.Said.{Said}
@@ -16,7 +16,6 @@ use Rattle.scheme.specs.declared.refusal.Said.the-variants.{Granted, Refused}
 use Rattle.state.specs.declared.Mmu.{Mmu}
 use Rattle.mmu.specs.Calls.{refusedWith}
 use Rattle.mmu.specs.declared.Kept.{Kept}
-use Rattle.installer.specs.Install.{onGrant}
 use Rattle.session.specs.Session.{endMmu, endRam}
 use Rattle.text.specs.Lines.{refusedLine}
 use Rattle.steps.specs.Steps.{textFrom}

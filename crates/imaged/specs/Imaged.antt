@@ -5,7 +5,7 @@ use mathlib.Core.Bool.{Bool, cond, _&&_}
 use mathlib.Core.List.{List}
 use lib.Dec.{eqb, leb, ltb}
 use lib.ListN.{length}
-use Rattle.scheme.specs.Refusals.{numberOf}
+use Rattle.scheme.specs.Refusals.{numberOf, onGrant}
 use Rattle.scheme.specs.declared.refusal.Refusal.the-variants.{BadLayout, Unfit}
 use Rattle.scheme.specs.declared.refusal.Said.{Said}
 use Rattle.scheme.specs.declared.refusal.Said.the-variants.{Granted, Refused}
@@ -15,7 +15,6 @@ use Rattle.mmu.specs.Calls.{refusedWith, setSchemeOf, reconfigureOf}
 use Rattle.mmu.specs.declared.Kept.{Kept}
 use Rattle.session.specs.Session.{endMmu, endRam}
 use Rattle.session.specs.declared.Event.{Event}
-use Rattle.installer.specs.Install.{onGrant}
 use Rattle.layout.specs.Layout.{byteAt, recordsOk}
 use Rattle.bundle.specs.Parts.{schemeAt, configAt}
 use Rattle.steps.specs.Steps.{eventsFrom, textFrom}

@@ -9,7 +9,7 @@ use lib.ListN.{length, take, drop, length-drop}
 use lib.Seq.{length-take-le}
 use borrow.Author.Tests.{eq-eqb, ne-eqb, eqb-true, lt-ltb, le-ltb, ltb-false, not-false}
 use Rattle.pte.specs.declared.PtePerms.{PtePerms}
-use Rattle.scheme.specs.Refusals.{numberOf}
+use Rattle.scheme.specs.Refusals.{numberOf, onGrant}
 use Rattle.scheme.specs.Scheme.{validOf}
 use Rattle.scheme.specs.declared.PagingScheme.{PagingScheme}
 use Rattle.scheme.specs.declared.refusal.Refusal.{Refusal}
@@ -25,7 +25,7 @@ use Rattle.plan.specs.Levels.{roomAt, tableAt, Fit, Good, At}
 use Rattle.plan.proofs.Laws.{is-valid, span-bound}
 use Rattle.plan.proofs.Rows.{table-in}
 use Rattle.plan.proofs.Lent.{lent}
-use Rattle.installer.specs.Install.{topEnd, barred, refuseIf, refusalOf, NoneBefore7, onGrant, installRam}
+use Rattle.installer.specs.Install.{topEnd, barred, refuseIf, refusalOf, NoneBefore7, installRam}
 use Rattle.installer.specs.Stretch.{tablePa, Room, Layable}
 
 -- ---- the plan of a fit scheme

@@ -7,6 +7,7 @@ use lib.Dec.{eqb, ltb}
 use lib.ListN.{length}
 use Rattle.pte.specs.Entry.{isLeaf, reserved}
 use Rattle.pte.specs.declared.PtePerms.{PtePerms}
+use Rattle.scheme.specs.Refusals.{onGrant}
 use Rattle.scheme.specs.Scheme.{validOf}
 use Rattle.scheme.specs.declared.PagingScheme.{PagingScheme}
 use Rattle.scheme.specs.declared.refusal.Refusal.{Refusal}
@@ -57,11 +58,6 @@ pub record NoneBefore7 (s : PagingScheme) (m : PageMapSpec) (root len : ℕ) : T
 
 abbrev pub installSaid : PagingScheme → PageMapSpec → Window → ℕ → List ℕ → Said
 installSaid s m win root ram = refusalOf s m win root (length ram)
-
--- "A refusal returns its number .. and RAM as it was"
-unfoldable pub onGrant : {A : Type 0} → Said → A → A → A
-onGrant Granted new old = new
-onGrant (Refused why) new old = old
 
 -- RAM with every word of the map written, and as it was where the installer refuses
 unfoldable pub installRam : PagingScheme → PageMapSpec → Window → ℕ → List ℕ → List ℕ

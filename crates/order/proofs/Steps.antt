@@ -8,6 +8,7 @@ use lib.Dec.{eqb}
 use lib.ListN.{length}
 use lib.Seq.{length-take-le, take-at}
 use borrow.Author.Tests.{leb-true, eqb-true, eq-eqb}
+use Rattle.scheme.specs.Refusals.{onGrant}
 use Rattle.scheme.specs.Satp.{asidOf}
 use Rattle.scheme.specs.Scheme.{total, okWidths, validOf, widthsOf, classes, padded}
 use Rattle.scheme.specs.declared.PagingScheme.{PagingScheme}
@@ -32,7 +33,7 @@ use Rattle.access.specs.Translate.{tallied, vpnOf, madeOf}
 use Rattle.mmu.specs.Calls.{roomFor, newOf, setSchemeOf, flushOf, flushVaddrOf, translateOf, translateRam}
 use Rattle.state.specs.declared.Mmu.{Mmu}
 use Rattle.access.specs.declared.Served.{Served}
-use Rattle.session.specs.Session.{switched, startOf}
+use Rattle.session.specs.Session.{switched, settingsSaid, startOf}
 use Rattle.session.specs.declared.Settings.{Settings}
 use Rattle.order.specs.Runs.{settingsOf, heardOf}
 use Rattle.order.specs.Plain.{verdictHeard}
@@ -85,7 +86,7 @@ adopted-fit m s v four t =
 module _ (s : Settings) (config : TlbConfig) (r : Ready s) (room : roomFor config ≡ true) where
   -- nothing of the set-up is refused
   start-is : startOf config s ≡ switched (withScheme (stateNew config) (s .scheme)) s
-  unfolding startOf newOf setSchemeOf
+  unfolding startOf settingsSaid onGrant newOf setSchemeOf
   start-is = rw (room, new-fit config room, r .valid)
 
   pub start-settings : settingsOf (startOf config s) ≡ s

@@ -8,12 +8,13 @@ use lib.Dec.{ltb}
 use lib.ListN.{length, take, drop, length-drop}
 use lib.Seq.{sets, sets-eq, take-at, drop-at, length-take-le}
 use borrow.Author.Tests.{ltb-false}
+use Rattle.scheme.specs.Refusals.{onGrant}
 use Rattle.scheme.specs.declared.PagingScheme.{PagingScheme}
 use Rattle.scheme.specs.declared.refusal.Refusal.{Refusal}
 use Rattle.scheme.specs.declared.refusal.Refusal.the-variants.{BadLayout}
 use Rattle.scheme.specs.declared.refusal.Said.{Said}
 use Rattle.scheme.specs.declared.refusal.Said.the-variants.{Granted, Refused}
-use Rattle.installer.specs.Install.{onGrant, installRam}
+use Rattle.installer.specs.Install.{installRam}
 use Rattle.layout.specs.Layout.{goodOf}
 use Rattle.bundle.specs.declared.MapPart.{MapPart}
 use Rattle.bundle.specs.declared.MapPart.the-variants.{None, Map}

@@ -6,13 +6,14 @@ use mathlib.Core.List.{List, []}
 use lib.Dec.{ltb}
 use lib.ListN.{length, take, drop}
 use lib.Seq.{sets}
+use Rattle.scheme.specs.Refusals.{onGrant}
 use Rattle.scheme.specs.declared.PagingScheme.{PagingScheme}
 use Rattle.scheme.specs.declared.refusal.Said.{Said}
 use Rattle.scheme.specs.declared.refusal.Said.the-variants.{Granted, Refused}
 use Rattle.state.specs.declared.Mmu.{Mmu}
 use Rattle.session.specs.Session.{startOf, settingsSaid, endMmu, endRam}
 use Rattle.session.specs.declared.Event.{Event}
-use Rattle.installer.specs.Install.{onGrant, installSaid, installRam}
+use Rattle.installer.specs.Install.{installSaid, installRam}
 use Rattle.bundle.specs.declared.MapPart.{MapPart}
 use Rattle.bundle.specs.declared.MapPart.the-variants.{None, Map}
 use Rattle.bundle.specs.declared.Parts.{Parts}
@@ -97,7 +98,7 @@ outputOf s = partsText s (earlyIn s) (partsIn s) (startIn s)
 abbrev pub endRamOf : List ℕ → List ℕ
 endRamOf s = partsEnd s (earlyIn s) (partsIn s) (startIn s)
 
--- the state as the run leaves it; on any refusal that which the settings gave
+-- the state as the run leaves it; on any refusal that which the settings gave, which is the default one where they are refused
 abbrev pub endMmuOf : List ℕ → Mmu
 endMmuOf s = partsMmu s (earlyIn s) (partsIn s) (startIn s)
 

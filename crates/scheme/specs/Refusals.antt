@@ -6,6 +6,8 @@ use Rattle.scheme.specs.declared.refusal.Refusal.the-variants.{BadScheme
 use Rattle.scheme.specs.declared.refusal.Refusal.the-variants.{TopTableOutside, BadFlags, NoRoom, BadLayout}
 use Rattle.scheme.specs.declared.refusal.Asked.{Asked}
 use Rattle.scheme.specs.declared.refusal.Asked.the-variants.{Is, Refused}
+use Rattle.scheme.specs.declared.refusal.Said.{Said}
+use Rattle.scheme.specs.declared.refusal.Said.the-variants as Said
 
 abbrev pub numberOf : Refusal → ℕ
 -- the scheme is not valid, or a level asked about is not below its count
@@ -24,6 +26,11 @@ numberOf BadFlags = 6
 numberOf NoRoom = 7
 -- the bundle breaks its layout
 numberOf BadLayout = 8
+
+-- "A refusal returns its number, the state it was handed .., and RAM as it was"
+unfoldable pub onGrant : {A : Type 0} → Said → A → A → A
+onGrant Said.Granted new old = new
+onGrant (Said.Refused why) new old = old
 
 -- a number asked of a scheme, or refusal 1
 unfoldable pub asked : Bool → ℕ → Asked

@@ -2,12 +2,15 @@
 use Prim.Native.Nat.{ℕ}
 use mathlib.Core.Bool.{cond}
 use mathlib.Core.List.{List, [], _∷_}
+use Rattle.scheme.specs.Refusals.{onGrant}
 use Rattle.scheme.specs.Satp.{satpWith}
 use Rattle.scheme.specs.Scheme.{validOf}
 use Rattle.scheme.specs.declared.refusal.Refusal.the-variants.{BadScheme}
 use Rattle.scheme.specs.declared.refusal.Said.{Said}
 use Rattle.scheme.specs.declared.refusal.Said.the-variants.{Refused}
+use Rattle.entry.specs.Geometry.{defaultConfig}
 use Rattle.entry.specs.declared.TlbConfig.{TlbConfig}
+use Rattle.state.specs.State.{stateNew}
 use Rattle.state.specs.declared.Mmu.{Mmu}
 use Rattle.mmu.specs.Calls.{newOf, setSchemeOf, translateOf, translateRam, flushOf, flushVaddrOf}
 use Rattle.session.specs.declared.Settings.{Settings}
@@ -28,13 +31,15 @@ switched m t =
       «tlb_enabled» = t .«tlb_on»;
     }
 
--- what `new`, `set_scheme` and the switches give: "an empty cache of its own size and policy, scheme, satp and switches"
-unfoldable pub startOf : TlbConfig → Settings → Mmu
-startOf config t = switched (setSchemeOf (newOf config .mmu) (t .scheme) .mmu) t
-
 -- "The program tests .. 1, 2"
 unfoldable pub settingsSaid : TlbConfig → Settings → Said
 settingsSaid config t = cond (validOf (t .scheme)) (newOf config .said) (Refused BadScheme)
+
+-- what `new`, `set_scheme` and the switches give: "an empty cache of its own size and policy, scheme, satp and switches"; where the settings are
+-- refused, "the default one", as "from a refused `new`"
+unfoldable pub startOf : TlbConfig → Settings → Mmu
+startOf config t =
+    onGrant (settingsSaid config t) (switched (setSchemeOf (newOf config .mmu) (t .scheme) .mmu) t) (stateNew defaultConfig)
 
 -- ---- one event
 

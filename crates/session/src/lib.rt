@@ -5,9 +5,11 @@ use scheme::PagingScheme;
 use scheme::Refusal;
 use scheme::Said;
 use scheme::Satp;
+use state::Mmu;
 use walk::Access;
 ghost use mathlib.Core.Path.{_≡_};
-ghost use Rattle.session.specs.Session.{startOf, settingsSaid};
+ghost use Rattle.mmu.specs.Calls.{setSchemeOf};
+ghost use Rattle.session.specs.Session.{switched, startOf, settingsSaid};
 
 // What stays as it is while a session runs; the TLB's configuration is not part of it.
 pub struct Settings {
@@ -25,13 +27,11 @@ pub enum Event {
     FlushAt(u32),
 }
 
-// The state that a configuration and settings give, and whether they are refused.
-pub fn set_up(config: TlbConfig, t: Settings) -> Kept
-    ensures { λ r. ⌜ (r .said ≡ settingsSaid config t) × (r .mmu ≡ startOf config t) ⌝ }
+// The scheme, satp and the switches taken over by a new state.
+fn take_over(blank: Mmu, t: Settings) -> Mmu
+    ensures { λ r. ⌜ r ≡ switched (setSchemeOf blank (t .scheme) .mmu) t ⌝ }
 {
     let s = t.scheme;
-    let fresh = mmu::new(config);
-    let blank = fresh.mmu;
     let adopted = mmu::set_scheme(blank, s);
     let mut m = adopted.mmu;
     let satp = Satp::new(t.satp);
@@ -39,12 +39,33 @@ pub fn set_up(config: TlbConfig, t: Settings) -> Kept
     m.enabled = t.enabled;
     m.force_translate = t.force;
     m.tlb_enabled = t.tlb_on;
+    m
+}
+
+// The state that a configuration and settings give, or why they are refused and the default state.
+pub fn set_up(config: TlbConfig, t: Settings) -> Kept
+    ensures { λ r. ⌜ (r .said ≡ settingsSaid config t) × (r .mmu ≡ startOf config t) ⌝ }
+{
+    let s = t.scheme;
     if !s.is_valid() {
+        let plain = mmu::new(entry::default_config());
+        let blank = plain.mmu;
         return Kept {
             said: Said::Refused(Refusal::BadScheme),
-            mmu: m,
+            mmu: blank,
         };
     }
+    let fresh = mmu::new(config);
     let said = fresh.said;
-    Kept { said, mmu: m }
+    let blank = fresh.mmu;
+    match said {
+        Said::Refused(why) => Kept {
+            said: Said::Refused(why),
+            mmu: blank,
+        },
+        Said::Granted => Kept {
+            said: Said::Granted,
+            mmu: take_over(blank, t),
+        },
+    }
 }

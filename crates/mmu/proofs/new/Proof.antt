@@ -1,19 +1,13 @@
 -- `new`: the test is what the maker requires; the default has room.
-use mathlib.Core.Path.{_≡_, refl, ap, _∙_}
-use mathlib.Core.Bool.{true}
+use mathlib.Core.Path.{ap, _∙_}
 use Rattle.walker.proofs.Cases.{said}
 use Rattle.scheme.specs.declared.refusal.Refusal.the-variants.{TooManyEntries}
-use Rattle.entry.specs.Geometry.{entriesFor, powUp, defaultConfig}
 use Rattle.state.specs.State.{stateNew}
-use Rattle.mmu.specs.Calls.{grantedWith, refusedWith, roomFor, newOf}
-use Rattle.mmu.proofs.Refusing.{passed, failed}
+use Rattle.mmu.specs.Calls.{grantedWith, refusedWith, newOf}
+use Rattle.mmu.proofs.Refusing.{default-room, passed, failed}
 use borrow.Author.Needs.{needs}
 use Rattle.mmu.proofs.new.Statement.{statement}
 use Rattle.mmu.proofs.new.Tie as tie
-
-default-room : roomFor defaultConfig ≡ true
-unfolding entriesFor powUp
-default-room = refl
 
 has-room-requires : tie.Need-has-room-requires
 has-room-requires c κs = search needs
