@@ -141,7 +141,7 @@ fn consult(m: Mmu, q: Access) -> Consulted
     let vpn = bits::shr32(q.vaddr, m.scheme.offset_bits);
     let asid = m.satp.asid();
     let t = m.tlb;
-    let p = tlb::probe(t, vpn, asid);
+    let p = tlb_probe::probe(t, vpn, asid);
     let found = p.lookup;
     let u = p.tlb;
     let lookup = decide(found, q);
@@ -228,7 +228,7 @@ fn remember(m: Mmu, q: Access, r: WalkResult) -> Mmu
     }
     let e = made(m.scheme.offset_bits, m.satp.asid(), q, r);
     let t = n.tlb;
-    let u = tlb::install(t, e);
+    let u = tlb_install::install(t, e);
     let mut k = n;
     k.tlb = u;
     k

@@ -130,7 +130,7 @@ pub fn flush(m: Mmu) -> Kept
         return refused(Refusal::Unfit, m);
     }
     let t = m.tlb;
-    granted(with_tlb(m, tlb::flush(t)))
+    granted(with_tlb(m, tlb_probe::flush(t)))
 }
 
 // Clears the valid marks of the entries that answer for an address, in any address space. Refusal 3.
@@ -141,7 +141,7 @@ pub fn flush_vaddr(m: Mmu, vaddr: u32) -> Kept
         return refused(Refusal::Unfit, m);
     }
     let t = m.tlb;
-    granted(with_tlb(m, tlb::flush_vaddr(t, vaddr)))
+    granted(with_tlb(m, tlb_probe::flush_vaddr(t, vaddr)))
 }
 
 // Translates an access: the address and the stall, or the page fault. Refusal 3.

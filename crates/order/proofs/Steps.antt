@@ -10,7 +10,7 @@ use lib.Seq.{length-take-le, take-at}
 use borrow.Author.Tests.{leb-true, eqb-true, eq-eqb}
 use Rattle.scheme.specs.Refusals.{onGrant}
 use Rattle.scheme.specs.Satp.{asidOf}
-use Rattle.scheme.specs.Scheme.{total, okWidths, validOf, widthsOf, classes, padded}
+use Rattle.scheme.specs.Scheme.{total, okWidths, validOf, widthsOf, classes, padded, leafMasks}
 use Rattle.scheme.specs.declared.PagingScheme.{PagingScheme}
 use Rattle.bits.proofs.Bools.{and-right}
 use Rattle.scheme.proofs.Widths.{valid}
@@ -64,7 +64,7 @@ alike-self (x ∷ xs) = rw (eq-eqb x x refl) (alike-self xs)
 
 -- a new state is fit, if its entries have room
 pub new-fit : (config : TlbConfig) → roomFor config ≡ true → fitOf (stateNew config) ≡ true
-unfolding fitOf stateNew tlbNew validOf okWidths total classes alike
+unfolding fitOf stateNew tlbNew leafMasks validOf okWidths total classes alike
 new-fit config room = rw (new-fits config (leb-true _ 128 room))
 
 -- and a fit state stays so under another scheme

@@ -2,17 +2,17 @@
 use Prim.Native.Nat.{ℕ, _*_, _/_, _^_, _≤_, _<_}
 use mathlib.Core.Path.{_≡_}
 use mathlib.Core.Bool.{Bool, _&&_}
-use mathlib.Core.List.{List, [], _∷_}
+use mathlib.Core.List.{List}
 use lib.Dec.{eqb, leb}
 use lib.ListN.{take, replicate}
+use Rattle.scheme.specs.Scheme.{sv32Scheme, leafMasks}
 use Rattle.entry.specs.Entry.{blank}
 use Rattle.entry.specs.Geometry.{waysFor, entriesFor, setsFor}
 use Rattle.entry.specs.declared.TlbEntry.{TlbEntry}
 use Rattle.entry.specs.declared.TlbConfig.{TlbConfig}
 use Rattle.slots.specs.Slots.{entryAt, classesFit}
-use Rattle.tlb.specs.Cache.{Cache, Shape, Chosen, Seen, withSlots, installIn, probeIn, flushIn, flushPageIn}
+use Rattle.tlb.specs.Cache.{Cache, Shape, Seen, withSlots, installIn, probeIn, flushIn, flushPageIn}
 use Rattle.tlb.specs.declared.Tlb.{Tlb}
-use Rattle.tlb.specs.declared.Victim.{Victim}
 use Rattle.tlb.specs.declared.Probed.{Probed}
 
 abbrev pub waysOf : Tlb → ℕ
@@ -58,9 +58,6 @@ withCache t c = record {
 abbrev pub withEntries : Tlb → List TlbEntry → Tlb
 withEntries t es = withCache t (withSlots (cacheOf t) es (t .«age_counter»))
 
-abbrev pub victimWith : Tlb → Chosen → Victim
-victimWith t v = record { at = v .at; tlb = withCache t (v .cache) }
-
 unfoldable pub tlbInstall : Tlb → TlbEntry → Tlb
 tlbInstall t e = withCache t (installIn (shapeOf t) e (cacheOf t))
 
@@ -89,9 +86,9 @@ tlbNew config = record {
   «age_counter» = 0;
   config = config;
   stats = record { hits = 0; misses = 0; evictions = 0; «page_faults» = 0 };
-  «offset_bits» = 12;
-  «superpage_masks» = 0 ∷ 10 ∷ 0 ∷ 0 ∷ [];
-  «mask_count» = 2;
+  «offset_bits» = sv32Scheme .«offset_bits»;
+  «superpage_masks» = leafMasks sv32Scheme .masks;
+  «mask_count» = leafMasks sv32Scheme .count;
 }
 
 -- "`set_scheme` keeps entries"
