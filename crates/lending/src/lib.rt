@@ -1,5 +1,5 @@
-// A session in small: one MMU is kept in a local, and lent to each of the host's calls, one after another. The parameters are plain, so
-// that callers are covered and need no walk.
+// An MMU that is kept in a local and lent: to one access, and in a session in small to each of the host's calls, one after another. The
+// parameters are plain, so that callers are covered and need no walk.
 use access::Served;
 use entry::TlbConfig;
 use mmu::Kept;
@@ -7,8 +7,17 @@ use scheme::PagingScheme;
 use state::Mmu;
 use walk::Access;
 ghost use mathlib.Core.Path.{_≡_};
-ghost use Rattle.mmu.specs.Calls.{translateRam};
+ghost use Rattle.mmu.specs.Calls.{translateOf, translateRam};
 ghost use Rattle.lending.specs.Session.{sessionOf};
+
+// One access through the host's call, for a caller that has its state by value.
+pub fn translate_kept(m: Mmu, q: Access, ram: &mut [u8]) -> Served
+    ensures { λ r. ⌜ (r ≡ translateOf m q (now (ram .entry))) × (now (ram .exit) ≡ translateRam m q (now (ram .entry))) ⌝ }
+{
+    let mut kept = m;
+    let said = host::translate(&mut kept, q, ram);
+    Served { said, mmu: kept }
+}
 
 // What each call answers, and the state that it leaves.
 pub struct Session {
