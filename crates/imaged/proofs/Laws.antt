@@ -1,6 +1,6 @@
 -- What the proofs of this crate share: an answer's number, a call on an image by what is laid out, and a list of records that is not refused.
 use Prim.Native.Nat.{ℕ, _+_, _*_, _/_, _≤_}
-use mathlib.Core.Path.{_≡_, refl}
+use mathlib.Core.Path.{_≡_, refl, sym, _∙_}
 use mathlib.Core.Bool.{Bool, true, false, cond}
 use mathlib.Core.List.{List}
 use native.Mathlib.Omega.{arith}
@@ -89,6 +89,20 @@ cond-same true x = refl
 cond-same false x = refl
 
 module _ (image records ram : List ℕ) where
+  -- for the state and the RAM alone, the number and what is left
+  abbrev pub Leaves : ℕ → List ℕ → List ℕ → Type 0
+  Leaves r image′ ram′ = (r ≡ saidNumber (openedSaid image records)) × (image′ ≡ recordsImage image records ram) × (ram′ ≡ recordsRam image records ram)
+
+  pub events-refused : {why : Refusal} {r : ℕ} → openedSaid image records ≡ Refused why → r ≡ numberOf why → Leaves r image ram
+  events-refused e p = (p ∙ sym (number-refused e), sym (end-refused e _ _), sym (end-refused e _ _))
+
+  pub events-granted : {m end : Mmu} {image′ ram′ : List ℕ} → openedSaid image records ≡ Granted → m ≡ stateRead image .mmu
+      → (end ≡ endMmu (eventsOf records) m ram) × (ram′ ≡ endRam (eventsOf records) m ram) → image′ ≡ putState end image
+      → Leaves 0 image′ ram′
+  events-granted e same g p =
+      let g′ = rw same at g in
+      (sym (number-granted e), rw (g′ .0) at p ∙ sym (end-granted e _ _), g′ .1 ∙ sym (end-granted e _ _))
+
   abbrev text : List ℕ
   text = textFrom (eventsOf records) (stateRead image .mmu) ram
 

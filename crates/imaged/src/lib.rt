@@ -127,7 +127,7 @@ fn fit_said(m: Mmu) -> Said
 }
 
 // The image's state, and what a list of records on it is refused with.
-fn opened(image: &[u8], records: &[u8]) -> Kept
+pub fn opened(image: &[u8], records: &[u8]) -> Kept
     ensures { λ r. ⌜ (r .said ≡ openedSaid (now (image .entry)) (now (records .entry))) × (r .mmu ≡ stateRead (now (image .entry)) .mmu) ⌝ }
 {
     let got = image_read::state_in(image);

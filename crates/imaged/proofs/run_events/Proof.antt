@@ -1,7 +1,6 @@
 -- `imaged::run_events` meets its contract: by what the list is refused with.
 use mathlib.Core.Path.{sym, _∙_}
-use Rattle.run.proofs.Laws.{end-refused, end-granted}
-use Rattle.imaged.proofs.Laws.{number-refused, number-granted}
+use Rattle.imaged.proofs.Laws.{events-refused, events-granted}
 use borrow.Author.Needs.{needs}
 use Rattle.imaged.proofs.run_events.Statement.{statement}
 use Rattle.imaged.proofs.run_events.Tie as tie
@@ -30,8 +29,7 @@ same-length c = search needs
 returns : tie.Need-returns
 returns c =
     let s = c .before .before in
-    let e = sym (s .before .before .opened .ensures .0) ∙ s .said .given .1 in
-    (c .number .ensures ∙ sym (number-refused e), sym (end-refused e _ _), sym (end-refused e _ _))
+    events-refused _ _ _ (sym (s .before .before .opened .ensures .0) ∙ s .said .given .1) (c .number .ensures)
 
 same-length-2 : tie.Need-same-length-2
 same-length-2 c = search needs
@@ -45,9 +43,7 @@ returns-2 c =
     let f = p .before .before .before .before in
     let t = f .before .before .before in
     let o = t .before .before in
-    let e = sym (o .opened .ensures .0) ∙ t .enum-told .given .1 in
-    let g = rw (o .opened .ensures .1) at (f .run-events .ensures) in
-    (sym (number-granted e), rw (g .0) at (p .put-state .ensures .1) ∙ sym (end-granted e _ _), g .1 ∙ sym (end-granted e _ _))
+    events-granted _ _ _ (sym (o .opened .ensures .0) ∙ t .enum-told .given .1) (o .opened .ensures .1) (f .run-events .ensures) (p .put-state .ensures .1)
 
 pub run-events-spec : {M : Type 1} → statement M
 run-events-spec =
