@@ -1,6 +1,7 @@
 //! Times one access of the bought Rust and of our library on the same lists. In each round every list goes through every
 //! column once, so that what slows the machine down slows all of them; the table has the medians, in nanoseconds.
 
+mod lent;
 mod lists;
 
 use against::{image, ours};
@@ -22,12 +23,20 @@ struct Lane {
     list: List,
     rust: Oracle,
     by_value: Side,
+    lent: Side,
+    beside: Side,
     out: Vec<u8>,
     bundle_ram: Vec<u8>,
 }
 
-const COLUMNS: [(&str, fn(&mut Lane) -> u64); 3] =
-    [("bought Rust", rust), ("ours, by value", by_value), ("ours, run of a bundle", bundle)];
+/// The last two are of one archive, so that the same is inlined in both: that can weigh more than the form of a call.
+const COLUMNS: [(&str, fn(&mut Lane) -> u64); 5] = [
+    ("bought Rust", rust),
+    ("ours, by value", by_value),
+    ("ours, run of a bundle", bundle),
+    ("ours, through `host`", through_host),
+    ("by value, beside it", beside),
+];
 
 /// Nanoseconds of one call.
 fn timed<T>(call: impl FnOnce() -> T) -> (u64, T) {
@@ -46,11 +55,23 @@ fn rust(lane: &mut Lane) -> u64 {
     timed(pass).0
 }
 
-fn by_value(lane: &mut Lane) -> u64 {
-    let side = &mut lane.by_value;
-    let (time, said) = timed(|| ours::events(&mut side.image, &lane.list.records, &mut side.ram));
+/// A pass of a call that takes image, records and RAM.
+fn on_image(side: &mut Side, records: &[u8], call: fn(&mut [u8], &[u8], &mut [u8]) -> u32) -> u64 {
+    let (time, said) = timed(|| call(&mut side.image, records, &mut side.ram));
     assert_eq!(said, 0);
     time
+}
+
+fn by_value(lane: &mut Lane) -> u64 {
+    on_image(&mut lane.by_value, &lane.list.records, ours::events)
+}
+
+fn through_host(lane: &mut Lane) -> u64 {
+    on_image(&mut lane.lent, &lane.list.records, lent::through_host)
+}
+
+fn beside(lane: &mut Lane) -> u64 {
+    on_image(&mut lane.beside, &lane.list.records, lent::by_value)
 }
 
 fn bundle(lane: &mut Lane) -> u64 {
@@ -61,9 +82,9 @@ fn bundle(lane: &mut Lane) -> u64 {
 
 impl Lane {
     fn new(list: List) -> Lane {
-        let by_value = Side { image: list.image.clone(), ram: list.ram.clone() };
+        let side = || Side { image: list.image.clone(), ram: list.ram.clone() };
         let (out, bundle_ram) = (vec![0; 25 * COUNT + 113], vec![0; list.ram.len()]);
-        Lane { rust: list.oracle(), by_value, out, bundle_ram, list }
+        Lane { rust: list.oracle(), by_value: side(), lent: side(), beside: side(), out, bundle_ram, list }
     }
 
     /// One pass that is not timed, and one that must give the hits and misses that the list is named for, on all sides.
@@ -80,7 +101,9 @@ impl Lane {
             before = [hits, misses];
             let mut left = self.list.image.clone();
             image::put_state(&mut left, &self.rust.state());
-            assert!(self.by_value.image == left, "{}: the states differ", self.list.name);
+            for side in [&self.by_value, &self.lent, &self.beside] {
+                assert!(side.image == left, "{}: the states differ", self.list.name);
+            }
         }
     }
 }
