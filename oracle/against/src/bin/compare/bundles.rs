@@ -89,11 +89,17 @@ pub fn damaged(rng: &mut Rng) -> impl Iterator<Item = Vec<u8>> {
 #[derive(Clone)]
 pub struct File(pub Vec<u8>);
 
-/// What a file must leave: the text, the start of RAM, and the state, None where nothing is said of it.
+/// What a file must leave: the text, the start of RAM, and the state.
 struct Left {
     text: String,
     ram: Vec<u8>,
-    state: Option<Vec<u8>>,
+    state: Vec<u8>,
+}
+
+/// The default state: 32 entries, 4 ways, Lru, 1, 20; the TLB on; Sv32; satp 0.
+fn default_state() -> Vec<u8> {
+    let sv32 = Scheme { offset: 12, widths: vec![10, 10] };
+    image::fresh(&[32, 0, 4, 0, 1, 20], 4, &sv32, 0)
 }
 
 /// The image of the bought Rust after a run, or after none.
@@ -109,19 +115,19 @@ fn state_of(b: &Bundle, scheme: &Scheme, o: &Oracle) -> Vec<u8> {
 fn run_left(b: &Bundle, scheme: &Scheme) -> Left {
     let (o, text) = b.run(scheme);
     met::tallies(b.config.policy, [0; 4], o.state().tallies);
-    Left { text, ram: o.ram().to_vec(), state: Some(state_of(b, scheme, &o)) }
+    Left { text, ram: o.ram().to_vec(), state: state_of(b, scheme, &o) }
 }
 
-/// A refusal: RAM is the bundle's own once the settings are granted, and the state is that which they gave.
+/// A refusal: RAM is the bundle's own once the settings are granted, and the state is that which they gave; else it is the default one.
 fn refused_left(number: u8, b: Option<Bundle>) -> Left {
     let text = format!("refused {number}\n");
     match b.filter(|_| (4..8).contains(&number)) {
-        None => Left { text, ram: vec![], state: None },
+        None => Left { text, ram: vec![], state: default_state() },
         Some(b) => {
             let scheme = Scheme::valid(b.scheme).unwrap();
             let mut o = Oracle::new(b.config, b.ram);
             o.set_scheme(scheme.offset, &scheme.widths);
-            Left { text, ram: b.ram.to_vec(), state: Some(state_of(&b, &scheme, &o)) }
+            Left { text, ram: b.ram.to_vec(), state: state_of(&b, &scheme, &o) }
         }
     }
 }
@@ -157,9 +163,7 @@ impl File {
         differ::bytes("output past its end", &out[wrote..], &vec![OLD; out.len() - wrote])?;
         differ::bytes("RAM", &ram[..left.ram.len()], &left.ram)?;
         differ::bytes("RAM past its end", &ram[left.ram.len()..], &vec![OLD; ram.len() - left.ram.len()])?;
-        if let Some(owed) = left.state {
-            differ::images(&state[..image::BYTES], &owed)?;
-        }
+        differ::images(&state[..image::BYTES], &left.state)?;
         differ::bytes("state past its end", &state[image::BYTES..], &[OLD; SPARE])?;
         self.without_state(&ram, &out, wrote)?;
         self.too_short(room, ram_room)
