@@ -1,4 +1,5 @@
-// One access on a fit state: what the TLB has to say of it, and the walk where it has nothing to say.
+// One access on a fit state, and the parts of its answer that ask neither the TLB nor RAM: who passes, the tallies, the answer of a found
+// entry, and what a walk is remembered as.
 use entry::TlbEntry;
 use scheme::AccessType;
 use scheme::PrivMode;
@@ -11,16 +12,10 @@ use tlb::Tlb;
 use walk::Access;
 use walk::PageFault;
 use walk::WalkResult;
-use walk::Walked;
 ghost use mathlib.Core.Path.{_≡_};
-ghost use mathlib.Core.Bool.{cond};
 ghost use Prim.Native.Nat.{_-_, _<_, _≤_};
-ghost use Rattle.scheme.specs.Satp.{asidOf};
-ghost use Rattle.tlb.specs.State.{tlbInstall};
-ghost use Rattle.state.specs.State.{Ready, withTlb};
-ghost use Rattle.access.specs.Translate.{isBare, isMachine, isStore, passesWith, tallied, decides, consultOf, okAt, faultOf, foundServed, madeWith, walkServed, missWalk, servedOf, servedRam};
-ghost use Rattle.walk.specs.Answer.{markedBy};
-ghost use Rattle.walker.specs.Descent.{sv32};
+ghost use Rattle.state.specs.State.{withTlb};
+ghost use Rattle.access.specs.Translate.{isBare, isMachine, isStore, passesWith, tallied, decides, okAt, faultOf, foundServed, madeWith};
 
 // A physical address, and how long the access stalls.
 pub struct Place {
@@ -81,7 +76,7 @@ fn is_store(kind: AccessType) -> bool
 }
 
 // Whether an access is handed its own address.
-fn passes(enabled: bool, force: bool, satp: Satp, mode: PrivMode) -> bool
+pub fn passes(enabled: bool, force: bool, satp: Satp, mode: PrivMode) -> bool
     ensures { λ r. ⌜ r ≡ passesWith enabled force (satp .raw) mode ⌝ }
 {
     let bare = is_bare(satp.mode());
@@ -103,7 +98,7 @@ fn tally(t: Tlb, hits: u64, misses: u64, faults: u64) -> Tlb
     u
 }
 
-fn counted(m: Mmu, hits: u64, misses: u64, faults: u64) -> Mmu
+pub fn counted(m: Mmu, hits: u64, misses: u64, faults: u64) -> Mmu
     ensures { λ r. ⌜ r ≡ withTlb m (tallied hits misses faults (m .tlb)) ⌝ }
 {
     let t = m.tlb;
@@ -114,7 +109,7 @@ fn counted(m: Mmu, hits: u64, misses: u64, faults: u64) -> Mmu
 }
 
 // An entry that answers without a walk: a store on one that is not dirty walks, so that D is set in RAM.
-fn decide(found: Lookup, q: Access) -> Lookup
+pub fn decide(found: Lookup, q: Access) -> Lookup
     ensures { λ r. ⌜ r ≡ decides q found ⌝ }
 {
     let Lookup::Found(e) = found else {
@@ -127,30 +122,7 @@ fn decide(found: Lookup, q: Access) -> Lookup
     Lookup::Found(e)
 }
 
-// Asks the TLB, if it is on.
-fn consult(m: Mmu, q: Access) -> Consulted
-    requires { ⌜ Ready m ⌝ }
-    ensures { λ r. ⌜ r ≡ consultOf m q ⌝ }
-{
-    if !m.tlb_enabled {
-        return Consulted {
-            lookup: Lookup::Absent,
-            mmu: m,
-        };
-    }
-    let vpn = bits::shr32(q.vaddr, m.scheme.offset_bits);
-    let asid = m.satp.asid();
-    let t = m.tlb;
-    let p = tlb_probe::probe(t, vpn, asid);
-    let found = p.lookup;
-    let u = p.tlb;
-    let lookup = decide(found, q);
-    let mut n = m;
-    n.tlb = u;
-    Consulted { lookup, mmu: n }
-}
-
-fn ok_at(words: u32, paddr: u32, stall: u8) -> Answer
+pub fn ok_at(words: u32, paddr: u32, stall: u8) -> Answer
     ensures { λ r. ⌜ r ≡ okAt words paddr stall ⌝ }
 {
     Answer {
@@ -159,7 +131,7 @@ fn ok_at(words: u32, paddr: u32, stall: u8) -> Answer
     }
 }
 
-fn fault(words: u32, q: Access) -> Answer
+pub fn fault(words: u32, q: Access) -> Answer
     ensures { λ r. ⌜ r ≡ faultOf words q ⌝ }
 {
     let kind = q.kind;
@@ -172,7 +144,7 @@ fn fault(words: u32, q: Access) -> Answer
 }
 
 // The answer of an entry that decides: a hit, or a page fault that is neither hit nor miss.
-fn serve_found(m: Mmu, e: TlbEntry, q: Access) -> Served
+pub fn serve_found(m: Mmu, e: TlbEntry, q: Access) -> Served
     ensures { λ r. ⌜ r ≡ foundServed m e q ⌝ }
 {
     let kind = q.kind;
@@ -193,7 +165,7 @@ fn serve_found(m: Mmu, e: TlbEntry, q: Access) -> Served
 }
 
 // What a walk's result is remembered as.
-fn made(offset: u8, asid: u16, q: Access, r: WalkResult) -> TlbEntry
+pub fn made(offset: u8, asid: u16, q: Access, r: WalkResult) -> TlbEntry
     requires { ⌜ r .«page_bits» < 32 ⌝ }
     ensures { λ e. ⌜ e ≡ madeWith offset asid q r ⌝ }
 {
@@ -215,66 +187,6 @@ fn made(offset: u8, asid: u16, q: Access, r: WalkResult) -> TlbEntry
         mask_bits: class as u8,
         ref_bit: false,
     }
-}
-
-// A miss whose walk came to a page: counted, and installed if the TLB is on.
-fn remember(m: Mmu, q: Access, r: WalkResult) -> Mmu
-    requires { ⌜ Ready m × (r .«page_bits» < 32) ⌝ }
-    ensures { λ n. ⌜ n ≡ withTlb m (cond (m .«tlb_enabled») (tlbInstall (tallied 0 1 0 (m .tlb)) (madeWith (m .scheme .«offset_bits») (asidOf (m .satp .raw)) q r)) (tallied 0 1 0 (m .tlb))) ⌝ }
-{
-    let n = counted(m, 0, 1, 0);
-    if !m.tlb_enabled {
-        return n;
-    }
-    let e = made(m.scheme.offset_bits, m.satp.asid(), q, r);
-    let t = n.tlb;
-    let u = tlb_install::install(t, e);
-    let mut k = n;
-    k.tlb = u;
-    k
-}
-
-// The TLB has nothing to say: the walk answers.
-fn miss(m: Mmu, q: Access, ram: &mut [u8]) -> Served
-    requires { ⌜ Ready m ⌝ }
-    ensures { λ r. ⌜ (r ≡ walkServed m q (missWalk m q (now (ram .entry)))) × (now (ram .exit) ≡ markedBy sv32 (q .kind) (now (ram .entry)) (missWalk m q (now (ram .entry)))) ⌝ }
-{
-    let s = m.scheme;
-    let satp = m.satp;
-    let w = walk::walk_valid(s, satp.ppn(), ram, q);
-    let answer = w.answer;
-    match answer {
-        Walked::Ok(r) => Served {
-            said: ok_at(w.words, r.paddr, m.tlb.config.miss_penalty),
-            mmu: remember(m, q, r),
-        },
-        Walked::Err(_) => Served {
-            said: fault(w.words, q),
-            mmu: counted(m, 0, 1, 1),
-        },
-    }
-}
-
-// Translates an access on a fit state.
-pub fn serve(m: Mmu, q: Access, ram: &mut [u8]) -> Served
-    requires { ⌜ Ready m ⌝ }
-    ensures { λ r. ⌜ (r ≡ servedOf m q (now (ram .entry))) × (now (ram .exit) ≡ servedRam m q (now (ram .entry))) ⌝ }
-{
-    let satp = m.satp;
-    let mode = q.mode;
-    if passes(m.enabled, m.force_translate, satp, mode) {
-        return Served {
-            said: ok_at(0, q.vaddr, 0),
-            mmu: m,
-        };
-    }
-    let seen = consult(m, q);
-    let lookup = seen.lookup;
-    let n = seen.mmu;
-    let Lookup::Found(e) = lookup else {
-        return miss(n, q, ram);
-    };
-    serve_found(n, e, q)
 }
 
 // a - b, and 0 where b is the larger.

@@ -157,5 +157,5 @@ pub fn translate(m: Mmu, q: Access, ram: &mut [u8]) -> Served
             mmu: m,
         };
     }
-    access::serve(m, q, ram)
+    serve::serve(m, q, ram)
 }

@@ -1,5 +1,5 @@
 -- `made`: field by field; the class bits cleared are the low bits taken from 0.
-use Rattle.access.proofs.Serving.{cleared-low}
+use Rattle.access.proofs.Entries.{cleared-low}
 use borrow.Author.Needs.{needs}
 use Rattle.access.proofs.made.Statement.{statement}
 use Rattle.access.proofs.made.Tie as tie

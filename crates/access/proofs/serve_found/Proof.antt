@@ -6,7 +6,7 @@ use Rattle.access.specs.Translate.{okAt, entryPermits}
 use Rattle.state.specs.declared.Mmu.{Mmu}
 use Rattle.access.specs.declared.Answer.{Answer}
 use Rattle.access.specs.declared.Served.{Served}
-use Rattle.access.proofs.Serving.{found-hit, found-fault}
+use Rattle.access.proofs.Entries.{found-hit, found-fault}
 use borrow.Author.Needs.{needs}
 use Rattle.access.proofs.serve_found.Statement.{statement}
 use Rattle.access.proofs.serve_found.Tie as tie

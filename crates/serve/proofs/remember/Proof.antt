@@ -3,13 +3,13 @@ use Prim.Native.Nat.{ℕ}
 use mathlib.Core.Path.{sym, ap, _∙_}
 use Rattle.tlb.specs.State.{tlbInstall}
 use Rattle.state.specs.State.{withTlb}
 use Rattle.access.specs.Translate.{tallied, madeWith}
 use Rattle.state.specs.declared.Mmu.{Mmu}
 use borrow.Author.Tests.{not-true, not-false}
-use Rattle.access.proofs.Serving.{tallied-geo, kept-as}
+use Rattle.serve.proofs.Serving.{tallied-geo, kept-as}
 use borrow.Author.Needs.{needs}
-use Rattle.access.proofs.remember.Statement.{statement}
-use Rattle.access.proofs.remember.Tie as tie
+use Rattle.serve.proofs.remember.Statement.{statement}
+use Rattle.serve.proofs.remember.Tie as tie
 
 counted-requires : tie.Need-counted-requires
 counted-requires c κs = search needs

@@ -1,19 +1,17 @@
--- Facts behind the stages of translate: the entry that a miss installs, the states that the core is handed, and what a walk's answer
--- says of its verdict.
-use Prim.Native.Nat.{ℕ, _+_, _*_, _/_, _^_, _<_}
-use native.Mathlib.Nat.{zero-mod, add-zero}
+-- Facts behind the stages of translate: the states that each is handed, what a walk's answer says of its verdict, and which case of the
+-- definitions holds.
+use Prim.Native.Nat.{ℕ, _<_}
 use native.Mathlib.Omega.{arith}
 use mathlib.Core.Path.{_≡_, refl, sym, ap, _∙_}
 use mathlib.Core.Bool.{Bool, true, false, cond}
 use mathlib.Core.List.{List}
-use Rattle.bits.specs.Bits.{withLow}
 use Rattle.scheme.specs.Satp.{asidOf}
 use Rattle.scheme.specs.Scheme.{validOf}
 use Rattle.scheme.specs.declared.PagingScheme.{PagingScheme}
 use Rattle.walker.specs.Descent.{descentOf}
 use Rattle.walker.specs.declared.End.the-variants as End
 use Rattle.walk.specs.Verdict.{walkOf}
-use Rattle.walk.specs.Answer.{physicalOf, resultOf, answerOf}
+use Rattle.walk.specs.Answer.{resultOf, answerOf}
 use Rattle.walk.specs.declared.Access.{Access}
 use Rattle.walk.specs.declared.PageFault.{PageFault}
 use Rattle.walk.specs.declared.Verdict.{Verdict}
@@ -24,18 +22,13 @@ use Rattle.walk.specs.declared.Walked.the-variants.{Ok, Err}
 use Rattle.walk.proofs.Judged.{end-shift}
 use Rattle.walks.proofs.Claims.{block-sizes}
 use Rattle.tlb.specs.State.{Geo, tlbInstall, tlbProbe}
-use Rattle.entry.specs.declared.TlbEntry.{TlbEntry}
 use Rattle.tlb.specs.declared.Tlb.{Tlb}
 use Rattle.tlb.specs.declared.Lookup.{Lookup}
 use Rattle.state.specs.State.{Ready, withTlb}
-use Rattle.access.specs.Translate.{bypassed, tallied, consultOf, okAt, faultOf, passedOf, entryPermits, foundServed, madeWith, madeOf, walkServed, lookServed, lookRam, servedOf, servedRam}
+use Rattle.access.specs.Translate.{bypassed, tallied, consultOf, okAt, faultOf, passedOf, madeWith, madeOf, walkServed, lookServed, lookRam, servedOf, servedRam}
 use Rattle.state.specs.declared.Mmu.{Mmu}
 use Rattle.access.specs.declared.Consulted.{Consulted}
 use Rattle.access.specs.declared.Served.{Served}
-
--- the low bits taken from 0 are cleared
-pub cleared-low : (k x : ℕ) → withLow k x 0 ≡ x / 2 ^ k * 2 ^ k
-cleared-low k x = ap (λ (n : ℕ). x / 2 ^ k * 2 ^ k + n) (zero-mod (2 ^ k)) ∙ add-zero (x / 2 ^ k * 2 ^ k)
 
 -- a miss's page remembered, by whether the TLB is on
 abbrev pub kept-as : Mmu → Access → WalkResult → Bool → Mmu
@@ -95,28 +88,12 @@ page-small s root ram q r ok f = go (walkOf s root ram q) refl f
 
 -- ---- which case of the definitions holds
 
-module _ (m : Mmu) (q : Access) where
-  module _ (e : TlbEntry) where
-    pub found-hit : entryPermits e q ≡ true
-        → _≡_ {A = Served}
-        (record {
-          said = okAt 0 (physicalOf (e .ppn) (m .scheme .«offset_bits» + e .«mask_bits») (q .vaddr)) (m .tlb .config .«hit_latency»);
-          mmu = withTlb m (tallied 1 0 0 (m .tlb));
-        })
-        (foundServed m e q)
-    unfolding foundServed
-    found-hit h = rw h
+module _ (m : Mmu) (q : Access) (ram : List ℕ) where
+  pub served-passed : bypassed m q ≡ true → (passedOf m q ≡ servedOf m q ram) × (ram ≡ servedRam m q ram)
+  unfolding servedOf servedRam
+  served-passed h = (rw h, rw h)
 
-    pub found-fault : entryPermits e q ≡ false → _≡_ {A = Served} (record { said = faultOf 0 q; mmu = withTlb m (tallied 0 0 1 (m .tlb)) }) (foundServed m e q)
-    unfolding foundServed
-    found-fault h = rw h
-
-  module _ (ram : List ℕ) where
-    pub served-passed : bypassed m q ≡ true → (passedOf m q ≡ servedOf m q ram) × (ram ≡ servedRam m q ram)
-    unfolding servedOf servedRam
-    served-passed h = (rw h, rw h)
-
-    pub served-by : (l : Lookup) → bypassed m q ≡ false → consultOf m q .lookup ≡ l
-        → (lookServed (consultOf m q .mmu) q ram l ≡ servedOf m q ram) × (lookRam (consultOf m q .mmu) q ram l ≡ servedRam m q ram)
-    unfolding servedOf servedRam
-    served-by l h e = (rw (h, e), rw (h, e))
+  pub served-by : (l : Lookup) → bypassed m q ≡ false → consultOf m q .lookup ≡ l
+      → (lookServed (consultOf m q .mmu) q ram l ≡ servedOf m q ram) × (lookRam (consultOf m q .mmu) q ram l ≡ servedRam m q ram)
+  unfolding servedOf servedRam
+  served-by l h e = (rw (h, e), rw (h, e))

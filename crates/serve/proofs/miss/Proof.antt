@@ -3,14 +3,14 @@ use mathlib.Core.Path.{_≡_, sym, ap, ap₂, _∙_}
 use Rattle.walk.specs.Answer.{answerOf, markedBy}
 use Rattle.walker.specs.Descent.{sv32}
 use Rattle.state.specs.declared.Mmu.{Mmu}
 use Rattle.access.specs.declared.Answer.{Answer}
 use Rattle.access.specs.declared.Served.{Served}
 use Rattle.walk.specs.declared.WalkAnswer.{WalkAnswer}
 use Rattle.access.specs.Translate.{missWalk}
-use Rattle.access.proofs.Serving.{served-ok, served-err, page-small}
+use Rattle.serve.proofs.Serving.{served-ok, served-err, page-small}
 use borrow.Author.Needs.{needs}
-use Rattle.access.proofs.miss.Statement.{statement}
-use Rattle.access.proofs.miss.Tie as tie
+use Rattle.serve.proofs.miss.Statement.{statement}
+use Rattle.serve.proofs.miss.Tie as tie
 
 ppn-requires : tie.Need-ppn-requires
 ppn-requires c κs = search needs

@@ -1,9 +1,9 @@
 -- `consult`: with the TLB off nothing is asked; with it on the probe's entry is kept where it decides.
 use borrow.Author.Tests.{not-true, not-false}
 use Rattle.access.specs.Translate.{consultOf}
 use borrow.Author.Needs.{needs}
-use Rattle.access.proofs.consult.Statement.{statement}
-use Rattle.access.proofs.consult.Tie as tie
+use Rattle.serve.proofs.consult.Statement.{statement}
+use Rattle.serve.proofs.consult.Tie as tie
 
 returns : tie.Need-returns
 unfolding consultOf

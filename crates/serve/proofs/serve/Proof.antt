@@ -1,17 +1,17 @@
 -- `serve`: the address itself, the entry's answer or the walk's, as the definition says for what the TLB had to say.
 use mathlib.Core.Path.{_≡_, sym, ap, _∙_}
 use mathlib.Core.Bool.{false}
 use Rattle.access.specs.Translate.{bypassed, consultOf, foundServed, lookServed, lookRam}
 use Rattle.tlb.specs.declared.Lookup.{Lookup}
 use Rattle.tlb.specs.declared.Lookup.the-variants.{Found, Absent}
 use Rattle.state.specs.declared.Mmu.{Mmu}
 use Rattle.access.specs.declared.Answer.{Answer}
 use Rattle.access.specs.declared.Consulted.{Consulted}
 use Rattle.access.specs.declared.Served.{Served}
-use Rattle.access.proofs.Serving.{probe-ready, served-passed, served-by}
+use Rattle.serve.proofs.Serving.{probe-ready, served-passed, served-by}
 use borrow.Author.Needs.{needs}
-use Rattle.access.proofs.serve.Statement.{statement}
-use Rattle.access.proofs.serve.Tie as tie
+use Rattle.serve.proofs.serve.Statement.{statement}
+use Rattle.serve.proofs.serve.Tie as tie
 
 abbrev said-of : Mmu → Answer → Served
 said-of m a = record { said = a; mmu = m }
