@@ -26,7 +26,7 @@ fn step(e: Event, m: Mmu, ram: &mut [u8], out: &mut [u8], at: usize) -> Stepped
             let said = t.said;
             let outcome = said.outcome;
             let next = t.mmu;
-            let end = text::put_answer(out, at, q.vaddr, outcome);
+            let end = answer_text::put_answer(out, at, q.vaddr, outcome);
             Stepped { mmu: next, at: end }
         }
         Event::Flush => {

@@ -1,9 +1,9 @@
--- `text::put_answer` meets its contract: by what the outcome is.
+-- `answer_text::put_answer` meets its contract: by what the outcome is.
 use native.Mathlib.Omega.{arith}
 use Rattle.writer.proofs.Puts.{within}
 use borrow.Author.Needs.{needs}
-use Rattle.text.proofs.put_answer.Statement.{statement}
-use Rattle.text.proofs.put_answer.Tie as tie
+use Rattle.answer_text.proofs.put_answer.Statement.{statement}
+use Rattle.answer_text.proofs.put_answer.Tie as tie
 
 enum-known-outcome : tie.Need-enum-known-outcome
 enum-known-outcome c = search needs
