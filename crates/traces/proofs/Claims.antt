@@ -33,7 +33,8 @@ use Rattle.bundle.specs.declared.MapPart.{MapPart}
 use Rattle.bundle.specs.declared.MapPart.the-variants.{None, Map}
 use Rattle.bundle.specs.declared.Parts.{Parts}
 use Rattle.bundle.proofs.Claims.{granted-is-good, parts-inside}
-use Rattle.run.specs.Run.{firstOf, printed, partsText, mapRam, partsIn, earlyIn, outputOf, roomOf}
+use Rattle.bundle_run.specs.Parts.{printed, partsText, mapRam, roomOf}
+use Rattle.run.specs.Run.{firstOf, partsIn, earlyIn, outputOf}
 use Rattle.traces.specs.Claims.{eventsIn, ramIn, NothingRefused, EachIsPlain, BuffersFit, CutIsEnough}
 
 -- both of two answers are granted where the first refusal of them is none

@@ -12,7 +12,8 @@ use Rattle.walks.specs.Plain.{Bytes}
 use Rattle.order.specs.Runs.{accesses, answers, refusals}
 use Rattle.order.specs.Plain.{plainAnswer}
 use Rattle.steps.specs.Steps.{eventsFrom}
-use Rattle.run.specs.Run.{givenRam, mapRam, partsIn, startIn, earlyIn, outputOf, tooShort}
+use Rattle.bundle_run.specs.Parts.{givenRam, mapRam}
+use Rattle.run.specs.Run.{partsIn, startIn, earlyIn, outputOf, tooShort}
 
 -- what the bundle asks for
 abbrev pub eventsIn : List ℕ → List Event

@@ -1,6 +1,6 @@
 -- `run::room` meets its contract: by what was said of the layout and the settings.
 use mathlib.Core.Path.{sym}
-use Rattle.run.proofs.Laws.{room-refused, room-granted}
+use Rattle.bundle_run.proofs.Picks.{room-refused, room-granted}
 use borrow.Author.Needs.{needs}
 use Rattle.run.proofs.room.Statement.{statement}
 use Rattle.run.proofs.room.Tie as tie

@@ -1,13 +1,13 @@
--- `run::run_mapped` meets its contract: by what the installer said.
+-- `bundle_run::run_mapped` meets its contract: by what the installer said.
 use mathlib.Core.Path.{sym, _∙_}
 use denote.Ref.{now}
 use native.Mathlib.Omega.{arith}
 use Rattle.writer.proofs.Puts.{within, as-text}
-use Rattle.run.specs.Run.{mapText, mapEnd, mapMmu}
-use Rattle.run.proofs.Laws.{end-refused, end-granted, text-refused, text-granted, refused-map}
+use Rattle.bundle_run.specs.Parts.{mapText, mapEnd, mapMmu}
+use Rattle.bundle_run.proofs.Picks.{end-refused, end-granted, text-refused, text-granted, refused-map}
 use borrow.Author.Needs.{needs}
-use Rattle.run.proofs.run_mapped.Statement.{statement}
-use Rattle.run.proofs.run_mapped.Tie as tie
+use Rattle.bundle_run.proofs.run_mapped.Statement.{statement}
+use Rattle.bundle_run.proofs.run_mapped.Tie as tie
 
 install-requires : tie.Need-install-requires
 install-requires c κs = search needs

@@ -1,13 +1,13 @@
--- `run::run_parts` meets its contract: by what was said of the layout and the settings.
+-- `bundle_run::run_parts` meets its contract: by what was said of the layout and the settings.
 use mathlib.Core.Path.{sym, ap, _∙_}
 use native.Mathlib.Omega.{arith}
 use lib.Seq.{sets}
 use Rattle.writer.proofs.Puts.{within, as-text}
-use Rattle.run.specs.Run.{partsText, partsEnd, partsMmu}
-use Rattle.run.proofs.Laws.{end-refused, end-granted, text-refused, text-granted, room-refused, room-granted}
+use Rattle.bundle_run.specs.Parts.{partsText, partsEnd, partsMmu}
+use Rattle.bundle_run.proofs.Picks.{end-refused, end-granted, text-refused, text-granted, room-refused, room-granted}
 use borrow.Author.Needs.{needs}
-use Rattle.run.proofs.run_parts.Statement.{statement}
-use Rattle.run.proofs.run_parts.Tie as tie
+use Rattle.bundle_run.proofs.run_parts.Statement.{statement}
+use Rattle.bundle_run.proofs.run_parts.Tie as tie
 
 enum-known-early : tie.Need-enum-known-early
 enum-known-early c = search needs

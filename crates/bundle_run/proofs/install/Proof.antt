@@ -1,7 +1,7 @@
--- `run::install` meets its contract: the installer's answer, or that there is no map.
+-- `bundle_run::install` meets its contract: the installer's answer, or that there is no map.
 use borrow.Author.Needs.{needs}
-use Rattle.run.proofs.install.Statement.{statement}
-use Rattle.run.proofs.install.Tie as tie
+use Rattle.bundle_run.proofs.install.Statement.{statement}
+use Rattle.bundle_run.proofs.install.Tie as tie
 
 enum-told : tie.Need-enum-told
 enum-told c = search needs

@@ -1,15 +1,15 @@
--- `run::run_from` meets its contract: the part that is lent is the bundle's RAM, and what it becomes stands in its place.
+-- `bundle_run::run_from` meets its contract: the part that is lent is the bundle's RAM, and what it becomes stands in its place.
 use mathlib.Core.Path.{_≡_, sym, ap, _∙_}
 use native.Mathlib.Omega.{arith}
 use denote.Ref.{now}
 use lib.ListN.{length, take}
 use lib.Seq.{sets, length-take-le}
 use Rattle.writer.proofs.Puts.{kept}
-use Rattle.run.specs.Run.{givenRam}
-use Rattle.run.proofs.Laws.{front-part, front-other, between, given-length}
+use Rattle.bundle_run.specs.Parts.{givenRam}
+use Rattle.bundle_run.proofs.Fronts.{front-part, front-other, between, given-length}
 use borrow.Author.Needs.{needs}
-use Rattle.run.proofs.run_from.Statement.{statement}
-use Rattle.run.proofs.run_from.Tie as tie
+use Rattle.bundle_run.proofs.run_from.Statement.{statement}
+use Rattle.bundle_run.proofs.run_from.Tie as tie
 
 add-stop : tie.Need-add-stop
 add-stop c = search needs
