@@ -100,28 +100,28 @@ fn offsets() {
 
 fn levels() {
     both(
-        tell::scheme_of(20, 1, 12, 0, 0, 0),
+        tell::scheme_of(20, 1, 0x0c00_0000),
         MapKind::Offset(3),
         0xd000,
         0,
         0xffff_ffff,
     );
     both(
-        tell::scheme_of(12, 4, 2, 3, 5, 10),
+        tell::scheme_of(12, 4, 0x0203_050a),
         MapKind::Identity,
         0x1_0000,
         0x800_0000,
         0x840_0001,
     );
     both(
-        tell::scheme_of(16, 3, 4, 6, 6, 0),
+        tell::scheme_of(16, 3, 0x0406_0600),
         MapKind::Offset(-7),
         0x1_0000,
         0x1234_5678,
         0x1334_5678,
     );
     both(
-        tell::scheme_of(30, 2, 1, 1, 0, 0),
+        tell::scheme_of(30, 2, 0x0101_0000),
         MapKind::Identity,
         0x2000,
         0,
@@ -155,7 +155,7 @@ fn flags() {
 fn refusals() {
     let s = PagingScheme::sv32();
     both(
-        tell::scheme_of(12, 1, 20, 0, 0, 0),
+        tell::scheme_of(12, 1, 0x1400_0000),
         MapKind::Identity,
         1,
         0,

@@ -4,19 +4,28 @@ use access::Outcome;
 use entry::ReplacementPolicy;
 use entry::TlbConfig;
 use mmu::Kept;
-use scheme::AccessType;
-use scheme::PrivMode;
 use scheme::Said;
-use scheme::Satp;
 use state::Mmu;
 use walk::Access;
 
+// The policies, by the trace bundle's numbers.
+fn policy_of(n: u32) -> ReplacementPolicy {
+    match n {
+        0 => ReplacementPolicy::Lru,
+        1 => ReplacementPolicy::Mru,
+        2 => ReplacementPolicy::Fifo,
+        3 => ReplacementPolicy::Lfu,
+        4 => ReplacementPolicy::Clock,
+        _ => ReplacementPolicy::Random,
+    }
+}
+
 // A configuration with a hit latency of 1 and a miss penalty of 20.
-pub fn config(entry_count: u16, associativity: u8, replacement: ReplacementPolicy) -> TlbConfig {
+pub fn config(entries: u32, ways: u32, policy: u32) -> TlbConfig {
     TlbConfig {
-        entry_count,
-        associativity,
-        replacement,
+        entry_count: (entries % 65536) as u16,
+        associativity: (ways % 256) as u8,
+        replacement: policy_of(policy),
         hit_latency: 1,
         miss_penalty: 20,
     }
@@ -36,27 +45,21 @@ pub fn kept(k: Kept) -> Mmu {
     k.mmu
 }
 
-// An MMU that translates under a satp.
-pub fn under(m: Mmu, satp: u32) -> Mmu {
-    let s = Satp::new(satp);
-    let mut n = m;
-    n.satp = s;
-    n.enabled = true;
-    n
-}
-
-fn outcome(o: Outcome) {
+fn outcome(q: Access, o: Outcome) {
     match o {
         Outcome::Ok(p) => {
+            tell::who(q, q.vaddr);
             show::text(b" ok");
             show::hex(p.paddr);
             show::small(p.stall);
         }
         Outcome::Err(f) => {
+            tell::who(q, f.vaddr);
             show::text(b" fault");
             show::num(f.cause);
         }
         Outcome::Refused(r) => {
+            tell::who(q, q.vaddr);
             show::text(b" refused");
             show::num(r.number());
         }
@@ -65,13 +68,8 @@ fn outcome(o: Outcome) {
 
 // What an access is answered: who asks, the answer, and the words that a walk asked for.
 pub fn answered(q: Access, said: Answer) {
-    let kind = q.kind;
-    let mode = q.mode;
-    show::hex(q.vaddr);
-    tell::kind_name(kind);
-    tell::mode_name(mode);
     let o = said.outcome;
-    outcome(o);
+    outcome(q, o);
     show::text(b" words");
     show::num(said.words);
     show::end();
@@ -84,34 +82,21 @@ pub fn access(m: Mmu, ram: &mut [u8], q: Access) -> Mmu {
     s.mmu
 }
 
-pub fn load(m: Mmu, ram: &mut [u8], vaddr: u32) -> Mmu {
-    let kind = AccessType::Load;
-    let mode = PrivMode::U;
-    access(m, ram, Access { vaddr, kind, mode })
-}
-
-pub fn store(m: Mmu, ram: &mut [u8], vaddr: u32) -> Mmu {
-    let kind = AccessType::Store;
-    let mode = PrivMode::U;
-    access(m, ram, Access { vaddr, kind, mode })
-}
-
 // A slot: valid, VPN, PPN, ASID, class, age, dirty and reference bit.
-pub fn slot(m: Mmu, i: usize) {
-    if i < 128 {
-        let t = m.tlb;
-        let e = t.entries[i];
-        show::text(b"  slot");
-        show::flag(e.valid);
-        show::hex(e.vpn);
-        show::hex(e.ppn);
-        show::num(e.asid as u32);
-        show::small(e.mask_bits);
-        show::hex(e.age);
-        show::flag(e.dirty);
-        show::flag(e.ref_bit);
-        show::end();
-    }
+pub fn slot(m: Mmu, at: u32) {
+    let i = (at % 128) as usize;
+    let t = m.tlb;
+    let e = t.entries[i];
+    show::text(b"  slot");
+    show::flag(e.valid);
+    show::hex(e.vpn);
+    show::hex(e.ppn);
+    show::num(e.asid as u32);
+    show::small(e.mask_bits);
+    show::hex(e.age);
+    show::flag(e.dirty);
+    show::flag(e.ref_bit);
+    show::end();
 }
 
 pub fn tallies(m: Mmu) {

@@ -14,16 +14,49 @@ pub fn put(ram: &mut [u8], at: u32, word: u32) {
     memory::store32(ram, at, word);
 }
 
-// A scheme of up to four widths.
-pub fn scheme_of(offset_bits: u8, levels: u8, a: u8, b: u8, c: u8, d: u8) -> PagingScheme {
+fn byte(n: u32) -> u8 {
+    (n % 256) as u8
+}
+
+// A scheme of up to four widths, a byte each, the top one first.
+pub fn scheme_of(offset_bits: u32, levels: u32, widths: u32) -> PagingScheme {
+    let top = byte(widths / 0x100_0000);
+    let second = byte(widths / 0x1_0000);
+    let third = byte(widths / 0x100);
+    let last = byte(widths);
     PagingScheme {
-        offset_bits,
-        level_bits: [a, b, c, d],
-        levels,
+        offset_bits: byte(offset_bits),
+        level_bits: [top, second, third, last],
+        levels: byte(levels),
     }
 }
 
-pub fn kind_name(kind: AccessType) {
+fn kind_of(n: u32) -> AccessType {
+    match n {
+        0 => AccessType::Fetch,
+        1 => AccessType::Load,
+        _ => AccessType::Store,
+    }
+}
+
+fn mode_of(n: u32) -> PrivMode {
+    match n {
+        0 => PrivMode::U,
+        1 => PrivMode::S,
+        _ => PrivMode::M,
+    }
+}
+
+// Who asks, by the numbers that the trace bundle has for kind and privilege.
+pub fn asked(vaddr: u32, kind: u32, mode: u32) -> Access {
+    Access {
+        vaddr,
+        kind: kind_of(kind),
+        mode: mode_of(mode),
+    }
+}
+
+fn kind_name(kind: AccessType) {
     match kind {
         AccessType::Fetch => show::text(b" fetch"),
         AccessType::Load => show::text(b" load"),
@@ -31,12 +64,21 @@ pub fn kind_name(kind: AccessType) {
     }
 }
 
-pub fn mode_name(mode: PrivMode) {
+fn mode_name(mode: PrivMode) {
     match mode {
         PrivMode::U => show::text(b" U"),
         PrivMode::S => show::text(b" S"),
         PrivMode::M => show::text(b" M"),
     }
+}
+
+// Who asks, and the address that the answer names: the one asked for, or a fault's own.
+pub fn who(q: Access, vaddr: u32) {
+    let kind = q.kind;
+    let mode = q.mode;
+    show::hex(vaddr);
+    kind_name(kind);
+    mode_name(mode);
 }
 
 fn reason_name(why: Reason) {
@@ -66,30 +108,33 @@ fn verdict(ram: &[u8], s: PagingScheme, root: u32, access: Access) {
     }
 }
 
-fn told(answer: Walked) {
+fn told(q: Access, answer: Walked) {
     match answer {
         Walked::Ok(r) => {
+            who(q, q.vaddr);
             show::text(b" ok");
             show::hex(r.paddr);
             show::num(r.page_bits);
             show::small(r.leaf_level);
         }
         Walked::Err(f) => {
+            who(q, f.vaddr);
             show::text(b" fault");
             show::num(f.cause);
         }
     }
 }
 
-fn replied(reply: Reply) {
+fn replied(q: Access, reply: Reply) {
     match reply {
         Reply::Done(w) => {
             let answer = w.answer;
-            told(answer);
+            told(q, answer);
             show::text(b" words");
             show::num(w.words);
         }
         Reply::Refused(r) => {
+            who(q, q.vaddr);
             show::text(b" refused");
             show::num(r.number());
         }
@@ -106,12 +151,7 @@ pub fn word(ram: &[u8], at: u32) {
 
 // One walk: who asks, the answer, the words asked for, the word at `leaf` afterwards, and the reason of a fault.
 pub fn walked(ram: &mut [u8], s: PagingScheme, root: u32, access: Access, leaf: u32) {
-    let kind = access.kind;
-    let mode = access.mode;
-    show::hex(access.vaddr);
-    kind_name(kind);
-    mode_name(mode);
-    replied(walk::walk(s, root, ram, access));
+    replied(access, walk::walk(s, root, ram, access));
     word(ram, leaf);
     verdict(ram, s, root, access);
     show::end();

@@ -136,7 +136,7 @@ fn four_levels() {
     let mut ram = [0u8; 16384];
     four_levels_tables(&mut ram);
     four_levels_end(&mut ram);
-    four_levels_walks(&mut ram, tell::scheme_of(12, 4, 2, 3, 5, 10));
+    four_levels_walks(&mut ram, tell::scheme_of(12, 4, 0x0203_050a));
 }
 
 // A root whose table passes 2^32 comes round to 0, and a PPN above 20 bits loses its top: frames are kept to 32 bits.
@@ -145,21 +145,21 @@ fn wraps() {
     tell::put(&mut ram, 0, 0x0000_0003);
     load(
         &mut ram,
-        tell::scheme_of(12, 2, 12, 8, 0, 0),
+        tell::scheme_of(12, 2, 0x0c08_0000),
         0x003f_ffff,
         0x4000_0000,
         0,
     );
     load(
         &mut ram,
-        tell::scheme_of(12, 2, 12, 8, 0, 0),
+        tell::scheme_of(12, 2, 0x0c08_0000),
         0x003f_ffff,
         0x3ff0_0000,
         0,
     );
     load(
         &mut ram,
-        tell::scheme_of(20, 1, 12, 0, 0, 0),
+        tell::scheme_of(20, 1, 0x0c00_0000),
         0x0010_0000,
         0x0000_0456,
         0,
@@ -172,14 +172,14 @@ fn short_ram() {
     load(&mut ram, PagingScheme::sv32(), 1, 0x0000_0000, 4096);
     load(
         &mut ram,
-        tell::scheme_of(20, 1, 12, 0, 0, 0),
+        tell::scheme_of(20, 1, 0x0c00_0000),
         0,
         0x3ff0_0000,
         4092,
     );
     load(
         &mut ram,
-        tell::scheme_of(12, 1, 20, 0, 0, 0),
+        tell::scheme_of(12, 1, 0x1400_0000),
         0,
         0x0000_0000,
         4092,
