@@ -1,15 +1,28 @@
-// The map installer: each refusal's both sides, windows at 0, at the last page and across a table's edge, one to four levels, offsets that wrap.
-// The bought Rust was run on the same maps under the relative rule where nothing is refused, and stdout holds its answers; what the absolute
-// rule writes was worked out from document 01 by a script of its own.
-use memory::Word;
-use plan::MapRule;
-use plan::PageMapSpec;
-use plan::Window;
-use pte::PtePerms;
-use scheme::MapKind;
+// The map installer, as a script asks for it: each refusal's both sides, windows at 0, at the last page and across a table's edge, one to four
+// levels, offsets that wrap, RAM that is not zero. The first lines of stdin say what its letters stand for. The bought Rust was run on the same
+// maps under the relative rule where nothing is refused, and stdout holds its answers; refusals are document 01's, and what the absolute
+// rule writes was worked out from it by a script of its own.
+use bundle::MapBody;
 use scheme::PagingScheme;
 use scheme::Said;
+use script::Step;
 ghost use Prim.Native.Nat.{_<_};
+
+// What maps are installed under: the scheme, the kind, flags and MiB of the map as the trace bundle has them, and what each byte of RAM is
+// before.
+struct Setting {
+    scheme: PagingScheme,
+    kind: u32,
+    flags: u32,
+    mib: u32,
+    fill: u8,
+}
+
+fn wide(b: u8) -> u64
+    ensures { λ r. ⌜ r < 256 ⌝ }
+{
+    b as u64
+}
 
 // A number that hangs on every byte of RAM and its place.
 fn digest(ram: &[u8]) -> u32 {
@@ -22,19 +35,6 @@ fn digest(ram: &[u8]) -> u32 {
     h as u32
 }
 
-fn wide(b: u8) -> u64
-    ensures { λ r. ⌜ r < 256 ⌝ }
-{
-    b as u64
-}
-
-fn word(ram: &[u8], at: u32) {
-    match memory::load32(ram, at) {
-        Word::Is(w) => show::hex(w),
-        Word::Unreadable => show::text(b" -"),
-    }
-}
-
 fn said(s: Said) {
     match s {
         Said::Granted => show::text(b" granted"),
@@ -45,140 +45,68 @@ fn said(s: Said) {
     }
 }
 
-// What is left in RAM: the root's first word, the one at f000, where a root at 10000 has its first child, and the digest of all.
-fn left(ram: &[u8], root: u32) {
-    word(ram, root);
-    word(ram, 0xf000);
-    show::hex(digest(ram));
+// The map as the trace bundle would have it, read by its reader.
+fn body(t: Setting, s: Step) -> MapBody {
+    let mut bytes = [0u8; 20];
+    let head = s.d % 256 + 0x100 * (t.kind % 256) + 0x1_0000 * (t.flags % 256);
+    tell::put(&mut bytes, 0, head);
+    tell::put(&mut bytes, 4, t.mib);
+    tell::put(&mut bytes, 8, s.a);
+    tell::put(&mut bytes, 12, s.b);
+    tell::put(&mut bytes, 16, s.c);
+    bundle::body_at(&bytes, 0)
+}
+
+// Installs a map into 11000h bytes. Of what is left it prints the root's first word, the one at f000, where a root at 10000 has its first
+// child, and the digest of all.
+fn install(t: Setting, s: Step) {
+    let mut ram = [t.fill; 69632];
+    let scheme = t.scheme;
+    let b = body(t, s);
+    let spec = b.spec;
+    let window = b.window;
+    said(installer::install_map_scheme(&mut ram, s.a, scheme, spec, window));
+    tell::word(&ram, s.a);
+    tell::word(&ram, 0xf000);
+    show::hex(digest(&ram));
     show::end();
 }
 
-// A map into 11000h zero bytes.
-fn install(s: PagingScheme, spec: PageMapSpec, root: u32, start: u32, end: u32) {
-    let mut ram = [0u8; 69632];
-    said(installer::install_map_scheme(&mut ram, root, s, spec, Window { start, end }));
-    left(&ram, root);
-}
-
-fn spec(kind: MapKind, rule: MapRule) -> PageMapSpec {
-    let perms = PtePerms {
-        r: true,
-        w: true,
-        x: true,
-        u: true,
-    };
-    PageMapSpec {
-        kind,
-        perms,
-        global: false,
-        rule,
+// Does what a line asks for, and hands back the setting.
+fn perform(t: Setting, s: Step) -> Setting {
+    let op = s.op;
+    let mut u = t;
+    match op {
+        b'#' => (),
+        b'p' => u.scheme = tell::scheme_of(s.a, s.b, s.c),
+        b'k' => {
+            u.kind = s.a;
+            u.flags = s.b;
+            u.mib = s.c;
+        }
+        b'z' => u.fill = (s.a % 256) as u8,
+        b'i' => install(t, s),
+        _ => script::bad_line(),
     }
+    u
 }
 
-fn both(s: PagingScheme, kind: MapKind, root: u32, start: u32, end: u32) {
-    show::text(b"relative");
-    install(s, spec(kind, MapRule::Relative), root, start, end);
-    show::text(b"absolute");
-    install(s, spec(kind, MapRule::Absolute), root, start, end);
-}
-
-fn windows() {
-    let s = PagingScheme::sv32();
-    both(s, MapKind::Identity, 0x1_0000, 0x40_0000, 0x40_1000);
-    both(s, MapKind::Identity, 0x1_0000, 0, 1);
-    both(s, MapKind::Identity, 0x1_0000, 0xffff_f000, 0xffff_ffff);
-    both(s, MapKind::Identity, 0x1_0000, 0x3f_f000, 0x40_1000);
-    both(s, MapKind::Identity, 0x1_0000, 5, 5);
-}
-
-fn offsets() {
-    let s = PagingScheme::sv32();
-    both(s, MapKind::Offset(-1), 0x1_0000, 0x40_0000, 0x40_1000);
-    both(s, MapKind::Offset(4096), 0x1_0000, 0x40_0000, 0x40_1000);
-    both(s, MapKind::Offset(1), 0x1_0000, 0, 0);
-}
-
-fn levels() {
-    both(
-        tell::scheme_of(20, 1, 0x0c00_0000),
-        MapKind::Offset(3),
-        0xd000,
-        0,
-        0xffff_ffff,
-    );
-    both(
-        tell::scheme_of(12, 4, 0x0203_050a),
-        MapKind::Identity,
-        0x1_0000,
-        0x800_0000,
-        0x840_0001,
-    );
-    both(
-        tell::scheme_of(16, 3, 0x0406_0600),
-        MapKind::Offset(-7),
-        0x1_0000,
-        0x1234_5678,
-        0x1334_5678,
-    );
-    both(
-        tell::scheme_of(30, 2, 0x0101_0000),
-        MapKind::Identity,
-        0x2000,
-        0,
-        0x8000_0001,
-    );
-}
-
-// W without R, X alone, nothing but U, and G with R.
-fn rights(r: bool, w: bool, x: bool, global: bool) {
-    let kind = MapKind::Identity;
-    let rule = MapRule::Relative;
-    let perms = PtePerms { r, w, x, u: true };
-    let m = PageMapSpec {
-        kind,
-        perms,
-        global,
-        rule,
-    };
-    show::text(b"rights");
-    install(PagingScheme::sv32(), m, 0x1_0000, 0, 0);
-}
-
-fn flags() {
-    rights(false, true, true, false);
-    rights(false, false, true, false);
-    rights(false, false, false, true);
-    rights(true, false, false, true);
-}
-
-// 1 before all else, 4 before 5, 5 on both sides of the end of RAM and past 2^32, 7 on both sides of the room below the root.
-fn refusals() {
-    let s = PagingScheme::sv32();
-    both(
-        tell::scheme_of(12, 1, 0x1400_0000),
-        MapKind::Identity,
-        1,
-        0,
-        0,
-    );
-    both(s, MapKind::Identity, 0x1_0001, 0, 0);
-    both(s, MapKind::Identity, 0x1_1000, 0, 0);
-    both(s, MapKind::Identity, 0xffff_f000, 0, 0);
-    both(s, MapKind::Identity, 0x1000, 0, 0x40_0000);
-}
-
-fn room() {
-    let s = PagingScheme::sv32();
-    both(s, MapKind::Identity, 0x1000, 0, 0x40_0001);
-    both(s, MapKind::Identity, 0, 0, 0);
-    both(s, MapKind::Identity, 0, 0, 1);
-}
-
+// Nothing says that the script ends, so the loop counts its turns down, from a number that no run uses up.
 fn main() {
-    windows();
-    offsets();
-    levels();
-    flags();
-    refusals();
-    room();
+    let mut t = Setting {
+        scheme: PagingScheme::sv32(),
+        kind: 0,
+        flags: 0,
+        mib: 0,
+        fill: 0,
+    };
+    let mut turns = u64::MAX;
+    while turns > 0 {
+        let s = script::next_step();
+        if s.op == 0 {
+            return;
+        }
+        t = perform(t, s);
+        turns -= 1;
+    }
 }

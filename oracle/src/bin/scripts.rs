@@ -1,11 +1,12 @@
-//! Holds the answers of the test programs' scripts (stdout beside stdin in crates/mmu_cases and crates/walk_cases) to
-//! the bought Rust, line by line. It has neither refusals, which are told here by document 01, nor the count of words
-//! asked for, nor the reason of a fault: these two are cut off before a line is compared.
+//! Holds the answers of the test programs' scripts (stdout beside stdin in crates/mmu_cases, crates/walk_cases and
+//! crates/map_cases) to the bought Rust, line by line. It has neither refusals, which are told here by document 01, nor
+//! the count of words asked for, nor the reason of a fault: these two are cut off before a line is compared. Lines on
+//! maps of the absolute rule are passed over unless document 01 says that both rules give the same map.
 
 use oracle::falcon::memory::{Bus, Ram};
 use oracle::falcon::mmu::{AccessType, PrivMode, walker};
 use oracle::rules::{Scheme, tlb_entries};
-use oracle::{Config, Entry, Oracle};
+use oracle::{Config, Entry, Map, Oracle};
 use std::path::Path;
 use std::process::ExitCode;
 
@@ -189,6 +190,50 @@ impl Walk {
     }
 }
 
+/// What stands for a line that the bought Rust has no answer for.
+const NOT_COMPARABLE: &str = " not comparable\n";
+
+/// The script of `map_cases`: the scheme, the map's kind, flags and MiB, and what RAM is filled with.
+struct Maps {
+    scheme: Option<Scheme>,
+    kind: [u32; 4],
+    fill: u8,
+}
+
+impl Maps {
+    fn new() -> Maps {
+        Maps { scheme: None, kind: [0; 4], fill: 0 }
+    }
+
+    fn install(&self, [root, start, end, rule]: [u32; 4]) -> String {
+        let mut o = Oracle::new(config([1, 1, 0, 0]), &[self.fill; 0x11000]);
+        let [kind, flags, mib, _] = self.kind;
+        let map = Map { mib: (kind == 1).then_some(mib as i32), flags: flags as u8, root, window: (start, end) };
+        let refusal = self.scheme.as_ref().map_or(Some(1), |s| s.map_refusal(rule == 1, &map, o.ram().len()));
+        if let (Some(s), None) = (&self.scheme, refusal) {
+            if rule == 1 && !s.rules_agree(map.window) {
+                return NOT_COMPARABLE.to_string();
+            }
+            o.install_map_scheme(s.offset, &s.widths, map);
+        }
+        let word = |at: u32| o.ram.load32(at).map_or("-".to_string(), |w| format!("{w:08x}"));
+        let digest = o.ram().iter().fold(0u32, |h, &b| h.wrapping_mul(31).wrapping_add(b as u32));
+        let answer = said(refusal.map_or(Ok(()), |number| Err(number as u32)));
+        format!("{} {} {} {digest:08x}\n", answer.trim_end(), word(root), word(0xF000))
+    }
+
+    fn perform(&mut self, Step(op, n): Step) -> String {
+        match op {
+            b'p' => self.scheme = scheme(n),
+            b'k' => self.kind = n,
+            b'z' => self.fill = n[0] as u8,
+            b'i' => return self.install(n),
+            _ => return "bad line\n".to_string(),
+        }
+        String::new()
+    }
+}
+
 /// What a script comes to; titles are printed without a line end.
 fn run(script: &[u8], mut perform: impl FnMut(Step) -> String) -> String {
     let line = |line: &[u8]| match line[0] {
@@ -214,24 +259,34 @@ fn cut(line: &str) -> String {
     rest
 }
 
-/// How many lines agree, or the first that does not.
+/// How many lines were compared, or the first that differs.
 fn compare(name: &str, perform: impl FnMut(Step) -> String) -> Result<usize, String> {
     let folder = Path::new(env!("CARGO_MANIFEST_DIR")).join("../crates").join(name);
     let read = |file: &str| std::fs::read(folder.join(file)).map_err(|e| format!("{name}/{file}: {e}"));
     let bought = run(&read("stdin")?, perform);
     let ours = String::from_utf8_lossy(&read("stdout")?).into_owned();
-    let (bought, ours): (Vec<_>, Vec<_>) = (bought.lines().collect(), ours.lines().map(cut).collect());
-    match (0..bought.len().max(ours.len())).find(|&i| bought.get(i).copied() != ours.get(i).map(|l| &l[..])) {
-        None => Ok(ours.len()),
-        Some(i) => Err(format!("{name}/stdout:{}: {:?}, the bought Rust {:?}", i + 1, ours.get(i), bought.get(i))),
+    if bought.lines().count() != ours.lines().count() {
+        return Err(format!("{name}/stdout: another count of lines than its stdin asks for"));
     }
+    let mut count = 0;
+    for (i, (theirs, our)) in bought.lines().zip(ours.lines()).enumerate() {
+        if theirs.ends_with(NOT_COMPARABLE.trim_end()) {
+            continue;
+        }
+        if theirs != cut(our) {
+            return Err(format!("{name}/stdout:{}: {our:?}, the bought Rust {theirs:?}", i + 1));
+        }
+        count += 1;
+    }
+    Ok(count)
 }
 
 fn main() -> ExitCode {
-    let (mut mmu, mut walk) = (Mmu::new(), Walk::new());
+    let (mut mmu, mut walk, mut maps) = (Mmu::new(), Walk::new(), Maps::new());
     let all = [
         ("mmu_cases", compare("mmu_cases", |s| mmu.perform(s))),
         ("walk_cases", compare("walk_cases", |s| walk.perform(s))),
+        ("map_cases", compare("map_cases", |s| maps.perform(s))),
     ];
     for (name, answer) in &all {
         match answer {
