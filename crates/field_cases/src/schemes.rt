@@ -1,18 +1,9 @@
-// Schemes on both sides of each edge, satp, and the map's offset.
+// Schemes, satp, and the map's offset.
 use scheme::Asked;
-use scheme::MapKind;
 use scheme::PagingScheme;
 use scheme::Said;
 use scheme::Satp;
 use scheme::SatpMode;
-
-fn of(offset_bits: u8, levels: u8, a: u8, b: u8, c: u8, d: u8) -> PagingScheme {
-    PagingScheme {
-        offset_bits,
-        level_bits: [a, b, c, d],
-        levels,
-    }
-}
 
 fn answer(a: Asked) {
     match a {
@@ -54,7 +45,7 @@ fn level(s: PagingScheme, l: u8) {
     show::end();
 }
 
-fn tell(s: PagingScheme) {
+pub fn scheme(s: PagingScheme) {
     show::text(b"scheme");
     show::small(s.offset_bits);
     show::small(s.num_levels());
@@ -67,7 +58,7 @@ fn tell(s: PagingScheme) {
     level(s, 3);
 }
 
-fn satp(raw: u32) {
+pub fn satp(raw: u32) {
     let s = Satp::new(raw);
     show::text(b"satp");
     show::hex(raw);
@@ -80,42 +71,14 @@ fn satp(raw: u32) {
     show::end();
 }
 
-fn delta(kind: MapKind) {
+// The byte delta of a map, whose kind and MiB are read as the trace bundle has them.
+pub fn delta(kind: u32, mib: u32) {
+    let mut bytes = [0u8; 20];
+    tell::put(&mut bytes, 0, 0x100 * (kind % 256));
+    tell::put(&mut bytes, 4, mib);
+    let spec = bundle::body_at(&bytes, 0).spec;
+    let kind = spec.kind;
     show::text(b"delta");
     show::hex(kind.delta_bytes());
     show::end();
-}
-
-fn valid_ones() {
-    tell(PagingScheme::sv32());
-    tell(of(30, 2, 1, 1, 0, 0));
-    tell(of(20, 1, 12, 0, 0, 0));
-    tell(of(12, 4, 2, 3, 5, 10));
-    tell(of(12, 2, 12, 8, 0, 0));
-}
-
-fn refused_ones() {
-    tell(of(12, 1, 20, 0, 0, 0));
-    tell(of(31, 1, 1, 0, 0, 0));
-    tell(of(11, 2, 10, 11, 0, 0));
-    tell(of(12, 0, 10, 10, 0, 0));
-    tell(of(12, 5, 5, 5, 5, 5));
-    tell(of(12, 3, 10, 0, 10, 0));
-    tell(of(12, 2, 10, 9, 0, 0));
-}
-
-pub fn all() {
-    valid_ones();
-    refused_ones();
-    satp(0);
-    satp(0x7fff_ffff);
-    satp(0x8000_0001);
-    satp(scheme::make_satp(0xffff_f000, 0xffff));
-    satp(scheme::make_satp(0x0001_0fff, 0x0203));
-    delta(MapKind::Identity);
-    delta(MapKind::Offset(-1));
-    delta(MapKind::Offset(4096));
-    delta(MapKind::Offset(1));
-    delta(MapKind::Offset(-2147483648));
-    delta(MapKind::Offset(2147483647));
 }
