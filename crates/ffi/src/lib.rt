@@ -19,7 +19,8 @@ ghost use Rattle.scheme.specs.declared.map.MapKind.the-variants.{Offset};
 ghost use Rattle.walk.specs.Answer.{walkReply, walkRam};
 ghost use Rattle.writer.specs.Put.{Put};
 ghost use Rattle.run.specs.Run.{tooShort, outputOf, endRamOf, ranOf, ranBuffer};
-ghost use Rattle.imaged.specs.Imaged.{saidNumber, keptIn, schemedOf, configuredOf, openedSaid, recordsText, recordsRam, recordsImage, recordsShort, recordsRan};
+ghost use Rattle.imaged.specs.Imaged.{saidNumber, keptIn, schemedOf, configuredOf};
+ghost use Rattle.imaged_run.specs.Records.{openedSaid, recordsText, recordsRam, recordsImage, recordsShort, recordsRan};
 ghost use Rattle.ffi.specs.Exports.{ranNumber, stateShort, stateRan, stateBuffer, mapGiven, installedSaid, installedRam, recordGiven, toldCause, toldPlace, walkTold, replyNumber, replyTold, walkNumber, toldAfter, ramAfter, rootNumber};
 
 fn ran_number(ran: Ran) -> usize
@@ -83,7 +84,7 @@ pub extern "C" fn muntesulca_records(
         × (now (ram .exit) ≡ cond (recordsShort (now (image .entry)) (now (records .entry)) (length (now (out .entry)))) (now (ram .entry)) (recordsRam (now (image .entry)) (now (records .entry)) (now (ram .entry))))
         × (now (image .exit) ≡ cond (recordsShort (now (image .entry)) (now (records .entry)) (length (now (out .entry)))) (now (image .entry)) (recordsImage (now (image .entry)) (now (records .entry)) (now (ram .entry)))) ⌝ }
 {
-    let ran = imaged::run_records(image, records, ram, out);
+    let ran = imaged_run::run_records(image, records, ram, out);
     ran_number(ran)
 }
 
@@ -94,7 +95,7 @@ pub extern "C" fn muntesulca_events(image: &mut [u8], records: &[u8], ram: &mut 
         × (now (image .exit) ≡ recordsImage (now (image .entry)) (now (records .entry)) (now (ram .entry)))
         × (now (ram .exit) ≡ recordsRam (now (image .entry)) (now (records .entry)) (now (ram .entry))) ⌝ }
 {
-    imaged::run_events(image, records, ram)
+    imaged_run::run_events(image, records, ram)
 }
 
 #[no_mangle]

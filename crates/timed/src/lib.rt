@@ -8,7 +8,8 @@ ghost use Prim.Native.Nat.{_*_, _≤_};
 ghost use lib.ListN.{length};
 ghost use Rattle.session.specs.Session.{stepMmu, stepRam, endMmu, endRam};
 ghost use Rattle.steps.specs.Steps.{eventsFrom};
-ghost use Rattle.imaged.specs.Imaged.{saidNumber, openedSaid, recordsRam, recordsImage};
+ghost use Rattle.imaged.specs.Imaged.{saidNumber};
+ghost use Rattle.imaged_run.specs.Records.{openedSaid, recordsRam, recordsImage};
 
 // One event; flushes are by value. As in `fold`, each kind has its arm: a call of `fold`'s step would slow the other list down, since it would no
 // longer be inlined there.
@@ -56,7 +57,7 @@ pub extern "C" fn muntesulca_events_lent(image: &mut [u8], records: &[u8], ram: 
         × (now (image .exit) ≡ recordsImage (now (image .entry)) (now (records .entry)) (now (ram .entry)))
         × (now (ram .exit) ≡ recordsRam (now (image .entry)) (now (records .entry)) (now (ram .entry))) ⌝ }
 {
-    let k = imaged::opened(image, records);
+    let k = imaged_run::opened(image, records);
     let said = k.said;
     match said {
         Said::Refused(why) => why.number(),
@@ -76,5 +77,5 @@ pub extern "C" fn muntesulca_events_value(image: &mut [u8], records: &[u8], ram:
         × (now (image .exit) ≡ recordsImage (now (image .entry)) (now (records .entry)) (now (ram .entry)))
         × (now (ram .exit) ≡ recordsRam (now (image .entry)) (now (records .entry)) (now (ram .entry))) ⌝ }
 {
-    imaged::run_events(image, records, ram)
+    imaged_run::run_events(image, records, ram)
 }

@@ -1,7 +1,7 @@
 -- A proof of each promise in specs/Claims.antt: p is what the `ensures` says, and the pair says what the result is and what is left. `tt` stands for a
 -- parameter that leaves nothing.
 use mathlib.Core.Path.{refl, ap, ap₂}
-use Rattle.unique.specs.Claims.{Memory, Pte, Scheme, Walker, Walk, Entry, State, Mmu, Session, Installer, Layout, Bundle, Run, Host, Image, ImageRead, Imaged, Ffi}
+use Rattle.unique.specs.Claims.{Memory, Pte, Scheme, Walker, Walk, Entry, State, Mmu, Session, Installer, Layout, Bundle, Run, Host, Image, ImageRead, Imaged, ImagedRun, Ffi}
 use Rattle.unique.proofs.Law.{free, fixed}
 
 pub memory : Memory
@@ -133,6 +133,10 @@ imaged = record {
   «said_number» = λ M 𝓤 H A mem run. (refl, λ κs a. (free 𝓤, fixed 𝓤 _ _ _ (λ r left p. (p, refl))));
   «set_scheme» = λ M 𝓤 H A mem run. (refl, λ κs a. (free 𝓤, fixed 𝓤 _ _ _ (λ r left p. (p .0, ap (λ image. (image, (tt, tt))) (p .1)))));
   reconfigure = λ M 𝓤 H A mem run. (refl, λ κs a. (free 𝓤, fixed 𝓤 _ _ _ (λ r left p. (p .0, ap (λ image. (image, (tt, tt))) (p .1)))));
+}
+
+pub imaged-run : ImagedRun
+imaged-run = record {
   «run_events» = λ M 𝓤 H A mem run. (refl, λ κs a. (free 𝓤, fixed 𝓤 _ _ _ (λ r left p. (p .0, ap₂ (λ image ram. (image, (tt, (ram, tt)))) (p .1) (p .2)))));
   «run_records» = λ M 𝓤 H A mem run. (refl, λ κs a. (free 𝓤, fixed 𝓤 _ _ _ (λ r left p. (p .0, ap₂ (λ image rest. (image, (tt, rest))) (p .3) (ap₂ (λ ram out. (ram, (out, tt))) (p .2) (p .1))))));
 }

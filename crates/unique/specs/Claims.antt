@@ -17,6 +17,7 @@ use Rattle.run.proofs as run
 use Rattle.image.proofs as image
 use Rattle.image_read.proofs as image-read
 use Rattle.imaged.proofs as imaged
+use Rattle.imaged_run.proofs as imaged-run
 use Rattle.ffi.proofs as ffi
 use Rattle.unique.specs.OneAnswer.{Promise}
 
@@ -109,8 +110,10 @@ pub record Imaged : Type 2 where
   pub «said_number» : Promise imaged.said_number.ended (λ M. imaged.said_number.clauses) (λ M. imaged.said_number.spec)
   pub «set_scheme» : Promise imaged.set_scheme.ended (λ M. imaged.set_scheme.clauses) (λ M. imaged.set_scheme.spec)
   pub reconfigure : Promise imaged.reconfigure.ended (λ M. imaged.reconfigure.clauses) (λ M. imaged.reconfigure.spec)
-  pub «run_events» : Promise imaged.run_events.ended (λ M. imaged.run_events.clauses) (λ M. imaged.run_events.spec)
-  pub «run_records» : Promise imaged.run_records.ended (λ M. imaged.run_records.clauses) (λ M. imaged.run_records.spec)
+
+pub record ImagedRun : Type 2 where
+  pub «run_events» : Promise imaged-run.run_events.ended (λ M. imaged-run.run_events.clauses) (λ M. imaged-run.run_events.spec)
+  pub «run_records» : Promise imaged-run.run_records.ended (λ M. imaged-run.run_records.clauses) (λ M. imaged-run.run_records.spec)
 
 pub record Ffi : Type 2 where
   pub «muntesulca_run» : Promise ffi.muntesulca_run.ended (λ M. ffi.muntesulca_run.clauses) (λ M. ffi.muntesulca_run.spec)

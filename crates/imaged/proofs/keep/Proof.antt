@@ -1,6 +1,6 @@
 -- `imaged::keep` meets its contract: by what the call was answered.
 use mathlib.Core.Path.{sym, _∙_}
-use Rattle.run.proofs.Laws.{end-refused, end-granted}
+use Rattle.scheme.specs.Refusals.{onGrant}
 use Rattle.imaged.specs.Imaged.{keptIn}
 use Rattle.imaged.proofs.Laws.{number-refused, number-granted}
 use borrow.Author.Needs.{needs}
@@ -20,20 +20,20 @@ put-state-requires : tie.Need-put-state-requires
 put-state-requires c κs = search needs
 
 returns : tie.Need-returns
-unfolding keptIn
+unfolding keptIn onGrant
 returns c =
     let e = c .before .before .said .given .1 in
-    (c .number .ensures ∙ sym (number-refused e), sym (end-refused e _ _))
+    (c .number .ensures ∙ sym (number-refused e), rw e)
 
 same-length : tie.Need-same-length
 same-length c = search needs
 
 returns-2 : tie.Need-returns-2
-unfolding keptIn
+unfolding keptIn onGrant
 returns-2 c =
     let p = c .before .before in
     let e = p .before .before .before .enum-told .given .1 in
-    (sym (number-granted e), p .put-state .ensures .1 ∙ sym (end-granted e _ _))
+    (sym (number-granted e), rw e (p .put-state .ensures .1))
 
 pub keep-spec : {M : Type 1} → statement M
 keep-spec =

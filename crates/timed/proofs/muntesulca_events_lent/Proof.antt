@@ -1,6 +1,6 @@
 -- `timed::muntesulca_events_lent` meets its contract: by what the list is refused with.
 use mathlib.Core.Path.{sym, _∙_}
-use Rattle.imaged.proofs.Laws.{events-refused, events-granted}
+use Rattle.imaged_run.proofs.Laws.{events-refused, events-granted}
 use borrow.Author.Needs.{needs}
 use Rattle.timed.proofs.muntesulca_events_lent.Statement.{statement}
 use Rattle.timed.proofs.muntesulca_events_lent.Tie as tie

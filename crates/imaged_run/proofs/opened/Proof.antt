@@ -1,10 +1,10 @@
--- `imaged::opened` meets its contract: by the contracts of what it calls.
+-- `imaged_run::opened` meets its contract: by the contracts of what it calls.
 use mathlib.Core.Path.{ap}
 use Rattle.image_read.specs.declared.StateRead.{StateRead}
-use Rattle.imaged.specs.Imaged.{openedSaid}
+use Rattle.imaged_run.specs.Records.{openedSaid}
 use borrow.Author.Needs.{needs}
-use Rattle.imaged.proofs.opened.Statement.{statement}
-use Rattle.imaged.proofs.opened.Tie as tie
+use Rattle.imaged_run.proofs.opened.Statement.{statement}
+use Rattle.imaged_run.proofs.opened.Tie as tie
 
 state-in-requires : tie.Need-state-in-requires
 state-in-requires c κs = search needs

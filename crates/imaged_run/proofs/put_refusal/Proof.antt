@@ -1,11 +1,11 @@
--- `imaged::put_refusal` meets its contract: there is room for the line, or not.
+-- `imaged_run::put_refusal` meets its contract: there is room for the line, or not.
 use mathlib.Core.Path.{ap}
 use borrow.Author.Tests.{lt-ltb, le-ltb}
 use Rattle.run.specs.declared.Ran.the-variants.{Wrote}
 use Rattle.run.proofs.Laws.{text-end}
 use borrow.Author.Needs.{needs}
-use Rattle.imaged.proofs.put_refusal.Statement.{statement}
-use Rattle.imaged.proofs.put_refusal.Tie as tie
+use Rattle.imaged_run.proofs.put_refusal.Statement.{statement}
+use Rattle.imaged_run.proofs.put_refusal.Tie as tie
 
 returns : tie.Need-returns
 returns c = let e = lt-ltb _ _ (c .if1 .taken) in (rw e, rw e)

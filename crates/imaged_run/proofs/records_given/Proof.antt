@@ -1,9 +1,9 @@
--- `imaged::records_given` meets its contract: the records are looked at where there are not too many.
+-- `imaged_run::records_given` meets its contract: the records are looked at where there are not too many.
 use borrow.Author.Tests.{lt-leb, le-leb}
-use Rattle.imaged.specs.Imaged.{recordsGiven}
+use Rattle.imaged_run.specs.Records.{recordsGiven}
 use borrow.Author.Needs.{needs}
-use Rattle.imaged.proofs.records_given.Statement.{statement}
-use Rattle.imaged.proofs.records_given.Tie as tie
+use Rattle.imaged_run.proofs.records_given.Statement.{statement}
+use Rattle.imaged_run.proofs.records_given.Tie as tie
 
 returns : tie.Need-returns
 unfolding recordsGiven

@@ -1,9 +1,9 @@
--- `imaged::run_events` meets its contract: by what the list is refused with.
+-- `imaged_run::run_events` meets its contract: by what the list is refused with.
 use mathlib.Core.Path.{sym, _∙_}
-use Rattle.imaged.proofs.Laws.{events-refused, events-granted}
+use Rattle.imaged_run.proofs.Laws.{events-refused, events-granted}
 use borrow.Author.Needs.{needs}
-use Rattle.imaged.proofs.run_events.Statement.{statement}
-use Rattle.imaged.proofs.run_events.Tie as tie
+use Rattle.imaged_run.proofs.run_events.Statement.{statement}
+use Rattle.imaged_run.proofs.run_events.Tie as tie
 
 opened-requires : tie.Need-opened-requires
 opened-requires c κs = search needs

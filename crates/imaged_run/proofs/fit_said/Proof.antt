@@ -1,9 +1,9 @@
--- `imaged::fit_said` meets its contract: one arm of the test each.
+-- `imaged_run::fit_said` meets its contract: one arm of the test each.
 use mathlib.Core.Path.{sym, _∙_}
-use Rattle.imaged.specs.Imaged.{fitSaid}
+use Rattle.imaged_run.specs.Records.{fitSaid}
 use borrow.Author.Needs.{needs}
-use Rattle.imaged.proofs.fit_said.Statement.{statement}
-use Rattle.imaged.proofs.fit_said.Tie as tie
+use Rattle.imaged_run.proofs.fit_said.Statement.{statement}
+use Rattle.imaged_run.proofs.fit_said.Tie as tie
 
 fits-requires : tie.Need-fits-requires
 fits-requires c κs = search needs

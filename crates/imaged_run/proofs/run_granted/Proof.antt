@@ -1,11 +1,11 @@
--- `imaged::run_granted` meets its contract: there is room for the lines, or not.
+-- `imaged_run::run_granted` meets its contract: there is room for the lines, or not.
 use mathlib.Core.Path.{ap}
 use borrow.Author.Tests.{lt-ltb, le-ltb}
 use Rattle.run.specs.declared.Ran.the-variants.{Wrote}
 use Rattle.run.proofs.Laws.{text-end}
 use borrow.Author.Needs.{needs}
-use Rattle.imaged.proofs.run_granted.Statement.{statement}
-use Rattle.imaged.proofs.run_granted.Tie as tie
+use Rattle.imaged_run.proofs.run_granted.Statement.{statement}
+use Rattle.imaged_run.proofs.run_granted.Tie as tie
 
 mul-need : tie.Need-mul-need
 mul-need c = search needs

@@ -1,10 +1,10 @@
--- `imaged::run_records` meets its contract: by what the list is refused with.
+-- `imaged_run::run_records` meets its contract: by what the list is refused with.
 use mathlib.Core.Path.{sym, _∙_}
 use denote.Ref.{now}
-use Rattle.imaged.proofs.Laws.{opened-short, records-refused, records-granted}
+use Rattle.imaged_run.proofs.Laws.{opened-short, records-refused, records-granted}
 use borrow.Author.Needs.{needs}
-use Rattle.imaged.proofs.run_records.Statement.{statement}
-use Rattle.imaged.proofs.run_records.Tie as tie
+use Rattle.imaged_run.proofs.run_records.Statement.{statement}
+use Rattle.imaged_run.proofs.run_records.Tie as tie
 
 opened-requires : tie.Need-opened-requires
 opened-requires c κs = search needs
