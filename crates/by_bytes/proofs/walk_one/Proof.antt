@@ -1,8 +1,8 @@
--- `ffi::walk_one` meets its contract: by what the walk answers.
+-- `by_bytes::walk_one` meets its contract: by what the walk answers.
 use mathlib.Core.Path.{sym, _∙_}
 use borrow.Author.Needs.{needs}
-use Rattle.ffi.proofs.walk_one.Statement.{statement}
-use Rattle.ffi.proofs.walk_one.Tie as tie
+use Rattle.by_bytes.proofs.walk_one.Statement.{statement}
+use Rattle.by_bytes.proofs.walk_one.Tie as tie
 
 walk-requires : tie.Need-walk-requires
 walk-requires c κs = search needs

@@ -1,9 +1,9 @@
--- `ffi::record_given` meets its contract: the lengths, and then the bytes.
+-- `by_bytes::record_given` meets its contract: the lengths, and then the bytes.
 use borrow.Author.Tests.{ne-eqb}
-use Rattle.ffi.specs.Exports.{recordGiven}
+use Rattle.by_bytes.specs.Numbers.{recordGiven}
 use borrow.Author.Needs.{needs}
-use Rattle.ffi.proofs.record_given.Statement.{statement}
-use Rattle.ffi.proofs.record_given.Tie as tie
+use Rattle.by_bytes.proofs.record_given.Statement.{statement}
+use Rattle.by_bytes.proofs.record_given.Tie as tie
 
 returns : tie.Need-returns
 unfolding recordGiven

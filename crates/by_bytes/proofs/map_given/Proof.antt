@@ -1,9 +1,9 @@
--- `ffi::map_given` meets its contract: the lengths, and then the bytes.
+-- `by_bytes::map_given` meets its contract: the lengths, and then the bytes.
 use borrow.Author.Tests.{ne-eqb}
-use Rattle.ffi.specs.Exports.{mapGiven}
+use Rattle.by_bytes.specs.Numbers.{mapGiven}
 use borrow.Author.Needs.{needs}
-use Rattle.ffi.proofs.map_given.Statement.{statement}
-use Rattle.ffi.proofs.map_given.Tie as tie
+use Rattle.by_bytes.proofs.map_given.Statement.{statement}
+use Rattle.by_bytes.proofs.map_given.Tie as tie
 
 returns : tie.Need-returns
 unfolding mapGiven

@@ -1,11 +1,11 @@
--- `ffi::muntesulca_install` meets its contract: by whether scheme and map are laid out.
+-- `by_bytes::install` meets its contract: by whether scheme and map are laid out.
 use mathlib.Core.Path.{sym, ap, _∙_}
 use borrow.Author.Tests.{not-true, not-false}
 use Rattle.imaged.specs.Imaged.{saidNumber, laidOut}
-use Rattle.ffi.proofs.Laws.{map-rooms}
+use Rattle.by_bytes.proofs.Laws.{map-rooms}
 use borrow.Author.Needs.{needs}
-use Rattle.ffi.proofs.muntesulca_install.Statement.{statement}
-use Rattle.ffi.proofs.muntesulca_install.Tie as tie
+use Rattle.by_bytes.proofs.install.Statement.{statement}
+use Rattle.by_bytes.proofs.install.Tie as tie
 
 map-given-requires : tie.Need-map-given-requires
 map-given-requires c κs = search needs
@@ -46,8 +46,8 @@ returns-2 c =
     let q = rw (b .body-at .ensures, s .scheme-at .ensures) at (i .install-map-scheme .ensures) in
     (rw e (c .said-number .ensures ∙ ap saidNumber (q .0)), rw e (q .1))
 
-pub muntesulca-install-spec : {M : Type 1} → statement M
-muntesulca-install-spec =
+pub install-spec : {M : Type 1} → statement M
+install-spec =
     tie.close
     (tie.spec
     map-given-requires

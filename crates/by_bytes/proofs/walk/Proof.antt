@@ -1,11 +1,11 @@
--- `ffi::muntesulca_walk` meets its contract: by the buffer, the layout, and what the record asks for.
+-- `by_bytes::walk` meets its contract: by the buffer, the layout, and what the record asks for.
 use mathlib.Core.Path.{sym, _∙_}
 use borrow.Author.Tests.{lt-ltb, le-ltb, not-true, not-false}
-use Rattle.ffi.specs.Exports.{walkNumber, toldAfter, ramAfter}
-use Rattle.ffi.proofs.Laws.{record-rooms}
+use Rattle.by_bytes.specs.Numbers.{walkNumber, toldAfter, ramAfter}
+use Rattle.by_bytes.proofs.Laws.{record-rooms}
 use borrow.Author.Needs.{needs}
-use Rattle.ffi.proofs.muntesulca_walk.Statement.{statement}
-use Rattle.ffi.proofs.muntesulca_walk.Tie as tie
+use Rattle.by_bytes.proofs.walk.Statement.{statement}
+use Rattle.by_bytes.proofs.walk.Tie as tie
 
 returns : tie.Need-returns
 unfolding walkNumber ramAfter toldAfter
@@ -89,8 +89,8 @@ returns-5 c =
     let h = sym (v .event-at .ensures) ∙ x .e2 .given .1 in
     (rw (e, f, h), rw (e, f, h), rw (e, f, h))
 
-pub muntesulca-walk-spec : {M : Type 1} → statement M
-muntesulca-walk-spec =
+pub walk-spec : {M : Type 1} → statement M
+walk-spec =
     tie.close
     (tie.spec
     returns

@@ -1,10 +1,10 @@
--- `ffi::put_walk` meets its contract: three words, one after another.
+-- `by_bytes::put_walk` meets its contract: three words, one after another.
 use native.Mathlib.Omega.{arith}
 use Rattle.writer.proofs.Puts.{then, within}
-use Rattle.ffi.specs.Exports.{walkTold}
+use Rattle.by_bytes.specs.Numbers.{walkTold}
 use borrow.Author.Needs.{needs}
-use Rattle.ffi.proofs.put_walk.Statement.{statement}
-use Rattle.ffi.proofs.put_walk.Tie as tie
+use Rattle.by_bytes.proofs.put_walk.Statement.{statement}
+use Rattle.by_bytes.proofs.put_walk.Tie as tie
 
 told-cause-requires : tie.Need-told-cause-requires
 told-cause-requires c κs = search needs

@@ -1,10 +1,10 @@
--- `ffi::muntesulca_root_pa` meets its contract: by the length, and by what is answered.
+-- `by_bytes::root_pa` meets its contract: by the length, and by what is answered.
 use mathlib.Core.Path.{sym, ap, _∙_}
 use borrow.Author.Tests.{ne-eqb}
-use Rattle.ffi.specs.Exports.{askedNumber}
+use Rattle.by_bytes.specs.Numbers.{askedNumber}
 use borrow.Author.Needs.{needs}
-use Rattle.ffi.proofs.muntesulca_root_pa.Statement.{statement}
-use Rattle.ffi.proofs.muntesulca_root_pa.Tie as tie
+use Rattle.by_bytes.proofs.root_pa.Statement.{statement}
+use Rattle.by_bytes.proofs.root_pa.Tie as tie
 
 returns : tie.Need-returns
 returns c = rw (ne-eqb _ _ (c .if1 .taken))
@@ -49,8 +49,8 @@ returns-3 c =
     let h = sym (rw (a .before .scheme-at .ensures) at (a .root-pa .ensures)) ∙ t .told2 .given .1 in
     rw (a .before .before .if1 .left, h, c .number .ensures)
 
-pub muntesulca-root-pa-spec : {M : Type 1} → statement M
-muntesulca-root-pa-spec =
+pub root-pa-spec : {M : Type 1} → statement M
+root-pa-spec =
     tie.close
     (tie.spec
     returns

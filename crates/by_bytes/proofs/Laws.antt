@@ -1,0 +1,28 @@
+-- What the proofs of this crate share: the lengths that a layout gives.
+use Prim.Native.Nat.{ℕ, _≤_}
+use mathlib.Core.Path.{_≡_}
+use mathlib.Core.Bool.{true, and-eq-true-iff}
+use mathlib.Core.List.{List}
+use native.Mathlib.Omega.{arith}
+use lib.Dec.{eqb}
+use lib.ListN.{length}
+use borrow.Author.Tests.{eqb-true}
+use Rattle.by_bytes.specs.Numbers.{mapGiven, recordGiven}
+
+pub map-rooms : (scheme map : List ℕ) → mapGiven scheme map ≡ true → (6 ≤ length scheme) × (20 ≤ length map)
+unfolding mapGiven
+map-rooms scheme map e =
+    let one = and-eq-true-iff (eqb (length scheme) 6) _ .0 e in
+    let two = and-eq-true-iff (eqb (length map) 20) _ .0 (one .1) in
+    let a : length scheme ≡ 6 = eqb-true _ _ (one .0) in
+    let b : length map ≡ 20 = eqb-true _ _ (two .0) in
+    (omega arith, omega arith)
+
+pub record-rooms : (scheme asked : List ℕ) → recordGiven scheme asked ≡ true → (6 ≤ length scheme) × (8 ≤ length asked)
+unfolding recordGiven
+record-rooms scheme asked e =
+    let one = and-eq-true-iff (eqb (length scheme) 6) _ .0 e in
+    let two = and-eq-true-iff (eqb (length asked) 8) _ .0 (one .1) in
+    let a : length scheme ≡ 6 = eqb-true _ _ (one .0) in
+    let b : length asked ≡ 8 = eqb-true _ _ (two .0) in
+    (omega arith, omega arith)

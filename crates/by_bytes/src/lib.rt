@@ -1,0 +1,137 @@
+// What a host asks for with bytes alone and no state: a map, a walk, a root. Answers are numbers.
+use scheme::Asked;
+use scheme::PagingScheme;
+use session::Event;
+use walk::Access;
+use walk::Reply;
+use walk::WalkAnswer;
+use walk::Walked;
+ghost use mathlib.Core.Path.{_≡_};
+ghost use Prim.Native.Nat.{_≤_};
+ghost use lib.ListN.{length};
+ghost use Rattle.walk.specs.Answer.{walkReply, walkRam};
+ghost use Rattle.writer.specs.Put.{Put};
+ghost use Rattle.imaged.specs.Imaged.{saidNumber};
+ghost use Rattle.by_bytes.specs.Numbers.{mapGiven, installedSaid, installedRam, recordGiven, toldCause, toldPlace, walkTold, replyNumber, replyTold, walkNumber, toldAfter, ramAfter, rootNumber};
+
+fn map_given(scheme: &[u8], map: &[u8]) -> bool
+    ensures { λ r. ⌜ r ≡ mapGiven (now (scheme .entry)) (now (map .entry)) ⌝ }
+{
+    if scheme.len() != 6 {
+        return false;
+    }
+    if map.len() != 20 {
+        return false;
+    }
+    layout::map_ok(map, 0)
+}
+
+// Installs a map into RAM: the refusal's number, or 0.
+pub fn install(scheme: &[u8], map: &[u8], ram: &mut [u8]) -> u32
+    ensures { λ r. ⌜ (r ≡ saidNumber (installedSaid (now (scheme .entry)) (now (map .entry)) (now (ram .entry))))
+        × (now (ram .exit) ≡ installedRam (now (scheme .entry)) (now (map .entry)) (now (ram .entry))) ⌝ }
+{
+    if !map_given(scheme, map) {
+        return 8;
+    }
+    let s = bundle::scheme_at(scheme, 0);
+    let b = bundle::body_at(map, 0);
+    let spec = b.spec;
+    let window = b.window;
+    let said = installer::install_map_scheme(ram, b.root, s, spec, window);
+    imaged::said_number(said)
+}
+
+fn record_given(scheme: &[u8], asked: &[u8]) -> bool
+    ensures { λ r. ⌜ r ≡ recordGiven (now (scheme .entry)) (now (asked .entry)) ⌝ }
+{
+    if scheme.len() != 6 {
+        return false;
+    }
+    if asked.len() != 8 {
+        return false;
+    }
+    layout::records_ok(asked, 0, 1)
+}
+
+fn told_cause(w: Walked) -> u32
+    ensures { λ r. ⌜ r ≡ toldCause w ⌝ }
+{
+    match w {
+        Walked::Ok(r) => 0,
+        Walked::Err(f) => f.cause,
+    }
+}
+
+fn told_place(w: Walked) -> u32
+    ensures { λ r. ⌜ r ≡ toldPlace w ⌝ }
+{
+    match w {
+        Walked::Ok(r) => r.paddr,
+        Walked::Err(f) => 0,
+    }
+}
+
+fn put_walk(told: &mut [u8], a: WalkAnswer) -> usize
+    requires { ⌜ 12 ≤ length (now told) ⌝ }
+    ensures { λ r. ⌜ Put 12 (now (told .entry)) (now (told .exit)) 0 r (walkTold a) ⌝ }
+{
+    let w = a.answer;
+    let cause = told_cause(w);
+    let place = told_place(w);
+    let x = entry_image::put_le(told, 0, 4, cause as u64);
+    let y = entry_image::put_le(told, x, 4, place as u64);
+    entry_image::put_le(told, y, 4, a.words as u64)
+}
+
+fn walk_one(s: PagingScheme, root: u32, q: Access, ram: &mut [u8], told: &mut [u8]) -> u32
+    requires { ⌜ 12 ≤ length (now told) ⌝ }
+    ensures { λ r. ⌜ (r ≡ replyNumber (walkReply s root (now (ram .entry)) q))
+        × (now (ram .exit) ≡ walkRam s root (now (ram .entry)) q)
+        × (now (told .exit) ≡ replyTold (walkReply s root (now (ram .entry)) q) (now (told .entry))) ⌝ }
+{
+    let reply = walk::walk(s, root, ram, q);
+    match reply {
+        Reply::Refused(why) => why.number(),
+        Reply::Done(a) => {
+            put_walk(told, a);
+            0
+        }
+    }
+}
+
+// One access by a plain walk from a root frame: `told` gets the cause, the address and the count of words.
+pub fn walk(scheme: &[u8], root: u32, asked: &[u8], ram: &mut [u8], told: &mut [u8]) -> u32
+    ensures { λ r. ⌜ (r ≡ walkNumber (now (scheme .entry)) root (now (asked .entry)) (now (ram .entry)) (now (told .entry)))
+        × (now (ram .exit) ≡ ramAfter (now (scheme .entry)) root (now (asked .entry)) (now (ram .entry)) (now (told .entry)))
+        × (now (told .exit) ≡ toldAfter (now (scheme .entry)) root (now (asked .entry)) (now (ram .entry)) (now (told .entry))) ⌝ }
+{
+    if told.len() < 12 {
+        return 255;
+    }
+    if !record_given(scheme, asked) {
+        return 8;
+    }
+    let s = bundle::scheme_at(scheme, 0);
+    let e = bundle::event_at(asked, 0);
+    match e {
+        Event::Translate(q) => walk_one(s, root, q, ram, told),
+        Event::Flush => 8,
+        Event::FlushAt(va) => 8,
+    }
+}
+
+// The root of a RAM of some size, or 2^32 and the refusal's number more.
+pub fn root_pa(scheme: &[u8], ram_size: u32) -> u64
+    ensures { λ r. ⌜ r ≡ rootNumber (now (scheme .entry)) «ram_size» ⌝ }
+{
+    if scheme.len() != 6 {
+        return 0x1_0000_0008;
+    }
+    let s = bundle::scheme_at(scheme, 0);
+    let told = s.root_pa(ram_size);
+    match told {
+        Asked::Is(n) => n as u64,
+        Asked::Refused(why) => 0x1_0000_0000 + why.number() as u64,
+    }
+}
