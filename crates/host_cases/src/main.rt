@@ -1,16 +1,9 @@
-// One MMU is kept for a session and lent to each of the host's calls. The bought Rust was run on the same calls where none is refused, and
-// stdout holds its answers; refusals and words are document 01's.
-use entry::TlbConfig;
+// One MMU is kept for a session and lent to each of the host's calls, as a script asks for it. The first lines of stdin say what its letters
+// stand for. The bought Rust was run on the same calls where none is refused, and stdout holds its answers; refusals and words are
+// document 01's.
 use lending::Session;
-use scheme::PagingScheme;
+use script::Step;
 use state::Mmu;
-
-// The root table in frame 1 points to the pages' table in frame 2, with pages 1 and 2 for U.
-fn tables(ram: &mut [u8]) {
-    tell::put(ram, 0x1000, 0x0000_0801);
-    tell::put(ram, 0x2004, 0x0000_041f);
-    tell::put(ram, 0x2008, 0x0000_081f);
-}
 
 // The first slots, the tallies, how many entries there are, and the page offset's width.
 fn state(m: Mmu) {
@@ -39,10 +32,24 @@ fn calls(r: Session) {
     state(mmu_tell::kept(restarted));
 }
 
+// Page 2 is in the TLB before the session, so that a flush of page 1 leaves something to the flush of all. A count that is not what the
+// configuration gives makes the state unfit.
+fn started(ram: &mut [u8], count: u32) -> Mmu {
+    let mut m = mmu_tell::kept(mmu::new(mmu_tell::config(4, 4, 0)));
+    m.satp.raw = 0x8000_0001;
+    m.enabled = true;
+    let entries = count as usize;
+    let mut n = mmu_tell::access(m, ram, tell::asked(0x2000, 1, 0));
+    n.tlb.count = entries;
+    n
+}
+
 // A session with page 1 looked up and flushed, and the leaf's word at its end.
-fn one_session(m: Mmu, s: PagingScheme, config: TlbConfig, ram: &mut [u8]) {
+fn session(ram: &mut [u8], s: Step) {
     let q = tell::asked(0x1234, 1, 0);
-    let r = lending::run_session(m, q, 0x1fff, s, config, ram);
+    let config = mmu_tell::config(s.b / 0x1_0000, s.b / 0x100, s.b % 0x100);
+    let scheme = tell::scheme_of(s.d / 0x100, s.d, s.c);
+    let r = lending::run_session(started(ram, s.a), q, 0x1fff, scheme, config, ram);
     let t = r.translated;
     let said = t.said;
     mmu_tell::answered(q, said);
@@ -52,41 +59,26 @@ fn one_session(m: Mmu, s: PagingScheme, config: TlbConfig, ram: &mut [u8]) {
     show::end();
 }
 
-// Page 2 is in the TLB before the session, so that a flush of page 1 leaves something to the flush of all.
-fn started(ram: &mut [u8]) -> Mmu {
-    tables(ram);
-    let mut m = mmu_tell::kept(mmu::new(mmu_tell::config(4, 4, 0)));
-    m.satp.raw = 0x8000_0001;
-    m.enabled = true;
-    mmu_tell::access(m, ram, tell::asked(0x2000, 1, 0))
+fn perform(ram: &mut [u8], s: Step) {
+    let op = s.op;
+    match op {
+        b'#' => (),
+        b'w' => tell::put(ram, s.a, s.b),
+        b'h' => session(ram, s),
+        _ => script::bad_line(),
+    }
 }
 
-fn granted(ram: &mut [u8]) {
-    show::text(b"granted");
-    let m = started(ram);
-    let s = tell::scheme_of(30, 2, 0x0101_0000);
-    one_session(m, s, mmu_tell::config(2, 1, 2), ram);
-}
-
-// 1 and 2 on a fit state: the calls before them are granted.
-fn refused(ram: &mut [u8]) {
-    show::text(b"refused");
-    let m = started(ram);
-    let s = tell::scheme_of(12, 1, 0x1400_0000);
-    one_session(m, s, mmu_tell::config(128, 3, 0), ram);
-}
-
-// 3 before all else on an unfit state: the count is not what the configuration gives.
-fn unfit(ram: &mut [u8]) {
-    show::text(b"unfit");
-    let mut m = started(ram);
-    m.tlb.count = 3;
-    one_session(m, PagingScheme::sv32(), mmu_tell::config(4, 4, 0), ram);
-}
-
+// Nothing says that the script ends, so the loop counts its turns down, from a number that no run uses up.
 fn main() {
-    let mut ram = [0u8; 12288];
-    granted(&mut ram);
-    refused(&mut ram);
-    unfit(&mut ram);
+    let mut ram = io::large_buffer();
+    let mut turns = u64::MAX;
+    while turns > 0 {
+        let s = script::next_step();
+        if s.op == 0 {
+            return;
+        }
+        perform(&mut ram, s);
+        turns -= 1;
+    }
 }

@@ -3,9 +3,11 @@ use access::Answer;
 use access::Outcome;
 use entry::ReplacementPolicy;
 use entry::TlbConfig;
+use entry::TlbEntry;
 use mmu::Kept;
 use scheme::Said;
 use state::Mmu;
+use tlb::TlbStats;
 use walk::Access;
 
 // The policies, by the trace bundle's numbers.
@@ -82,11 +84,8 @@ pub fn access(m: Mmu, ram: &mut [u8], q: Access) -> Mmu {
     s.mmu
 }
 
-// A slot: valid, VPN, PPN, ASID, class, age, dirty and reference bit.
-pub fn slot(m: Mmu, at: u32) {
-    let i = (at % 128) as usize;
-    let t = m.tlb;
-    let e = t.entries[i];
+// Valid, VPN, PPN, ASID, class, age, dirty and reference bit.
+fn entry(e: TlbEntry) {
     show::text(b"  slot");
     show::flag(e.valid);
     show::hex(e.vpn);
@@ -99,14 +98,25 @@ pub fn slot(m: Mmu, at: u32) {
     show::end();
 }
 
-pub fn tallies(m: Mmu) {
+pub fn slot(m: Mmu, at: u32) {
+    let i = (at % 128) as usize;
+    let t = m.tlb;
+    entry(t.entries[i]);
+}
+
+fn counts(s: TlbStats) {
     show::text(b"  hits");
-    show::large(m.tlb.stats.hits);
+    show::large(s.hits);
     show::text(b" misses");
-    show::large(m.tlb.stats.misses);
+    show::large(s.misses);
     show::text(b" faults");
-    show::large(m.tlb.stats.page_faults);
+    show::large(s.page_faults);
     show::text(b" evictions");
-    show::large(m.tlb.stats.evictions);
+    show::large(s.evictions);
     show::end();
+}
+
+pub fn tallies(m: Mmu) {
+    let t = m.tlb;
+    counts(t.stats);
 }

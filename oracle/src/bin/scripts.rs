@@ -1,7 +1,8 @@
-//! Holds the answers of the test programs' scripts (stdout beside stdin in crates/mmu_cases, crates/walk_cases and
-//! crates/map_cases) to the bought Rust, line by line. It has neither refusals, which are told here by document 01, nor
-//! the count of words asked for, nor the reason of a fault: these two are cut off before a line is compared. Lines on
-//! maps of the absolute rule are passed over unless document 01 says that both rules give the same map.
+//! Holds the answers of the test programs' scripts (stdout beside stdin in crates/mmu_cases, crates/host_cases,
+//! crates/walk_cases and crates/map_cases) to the bought Rust, line by line. It has neither refusals, which are told
+//! here by document 01, nor the count of words asked for, nor the reason of a fault: these two are cut off before a
+//! line is compared. Lines on maps of the absolute rule are passed over unless document 01 says that both rules give
+//! the same map.
 
 use oracle::falcon::memory::{Bus, Ram};
 use oracle::falcon::mmu::{AccessType, PrivMode, walker};
@@ -135,6 +136,55 @@ impl Mmu {
             _ => return "bad line\n".to_string(),
         }
         String::new()
+    }
+}
+
+/// The script of `host_cases`: the same calls, in the order of a session.
+struct Host {
+    mmu: Mmu,
+}
+
+impl Host {
+    fn new() -> Host {
+        Host { mmu: Mmu::new() }
+    }
+
+    fn state(&self, count: u32) -> String {
+        let m = &self.mmu;
+        let offset = m.o.state().offset;
+        format!("{}{}{}  entries {count} offset {offset}\n", m.slot(0), m.slot(1), m.tallies())
+    }
+
+    fn session(&mut self, [count, config, widths, scheme]: [u32; 4]) -> String {
+        let mut out = said(self.mmu.call(Step(b'n', [4, 4, 0, 0])));
+        self.mmu.set(Step(b's', [0x8000_0001, 0, 0, 0]));
+        self.mmu.set(Step(b'e', [5, 0, 0, 0]));
+        out += &self.mmu.access([0x2000, 1, 0, 0]);
+        self.mmu.set(Step(b'q', [count, 0, 0, 0]));
+        out += &self.mmu.access([0x1234, 1, 0, 0]);
+        out += &self.state(count);
+        let config = [config >> 16, config >> 8 & 0xFF, config & 0xFF, 0];
+        let calls = [
+            ("flush 1fff", Step(b'v', [0x1FFF, 0, 0, 0])),
+            ("flush", Step(b'f', [0; 4])),
+            ("set_scheme", Step(b'p', [scheme >> 8, scheme & 0xFF, widths, 0])),
+            ("reconfigure", Step(b'r', config)),
+        ];
+        for (name, call) in calls {
+            let made_anew = call.0 == b'r';
+            let answer = self.mmu.call(call);
+            let count = if made_anew && answer.is_ok() { self.mmu.o.state().entries.len() as u32 } else { count };
+            out += &format!("{name}{}{}", said(answer), self.state(count));
+        }
+        out + &format!(" {:08x}\n", self.mmu.o.word(0x2004))
+    }
+
+    fn perform(&mut self, s: Step) -> String {
+        match s {
+            Step(b'h', n) => self.session(n),
+            Step(b'w', _) => self.mmu.perform(s),
+            _ => "bad line\n".to_string(),
+        }
     }
 }
 
@@ -282,9 +332,10 @@ fn compare(name: &str, perform: impl FnMut(Step) -> String) -> Result<usize, Str
 }
 
 fn main() -> ExitCode {
-    let (mut mmu, mut walk, mut maps) = (Mmu::new(), Walk::new(), Maps::new());
+    let (mut mmu, mut host, mut walk, mut maps) = (Mmu::new(), Host::new(), Walk::new(), Maps::new());
     let all = [
         ("mmu_cases", compare("mmu_cases", |s| mmu.perform(s))),
+        ("host_cases", compare("host_cases", |s| host.perform(s))),
         ("walk_cases", compare("walk_cases", |s| walk.perform(s))),
         ("map_cases", compare("map_cases", |s| maps.perform(s))),
     ];
