@@ -19,7 +19,7 @@ use Rattle.steps.specs.Steps.{textFrom}
 use Rattle.run.specs.Run.{firstOf, ranBuffer}
 use Rattle.run.specs.declared.Ran.{Ran}
 use Rattle.run.specs.declared.Ran.the-variants.{Wrote, TooShort}
-use Rattle.run.proofs.Laws.{end-refused, end-granted, text-refused, text-granted, room-refused, room-granted}
+use Rattle.bundle_run.proofs.Picks.{end-refused, end-granted, text-refused, text-granted, room-refused, room-granted}
 use Rattle.image.specs.Image.{putState}
 use Rattle.image_read.specs.Reading.{stateRead}
 use Rattle.imaged.specs.Imaged.{saidNumber, laidOut}

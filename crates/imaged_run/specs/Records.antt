@@ -15,7 +15,8 @@ use Rattle.session.specs.Session.{endMmu, endRam}
 use Rattle.session.specs.declared.Event.{Event}
 use Rattle.layout.specs.Layout.{recordsOk}
 use Rattle.steps.specs.Steps.{eventsFrom, textFrom}
-use Rattle.run.specs.Run.{firstOf, printed, roomOf}
+use Rattle.bundle_run.specs.Parts.{printed, roomOf}
+use Rattle.run.specs.Run.{firstOf}
 use Rattle.run.specs.declared.Ran.{Ran}
 use Rattle.run.specs.declared.Ran.the-variants.{Wrote, TooShort}
 use Rattle.image.specs.Image.{putState}

@@ -17,8 +17,6 @@ use Rattle.writer.specs.Put.{Put}
 use Rattle.writer.proofs.Puts.{kept}
 use Rattle.bundle_run.specs.Parts.{Within}
 use Rattle.run.specs.declared.Ran.the-variants.{Wrote, TooShort}
--- how an answer picks, for the calls on an image too
-pub use Rattle.bundle_run.proofs.Picks.{end-refused, end-granted, text-refused, text-granted, room-refused, room-granted}
 
 -- what was read lies in the file
 pub within-read : (s : List ℕ) → Within s (readOf s .parts)

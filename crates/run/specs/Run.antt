@@ -12,11 +12,9 @@ use Rattle.state.specs.declared.Mmu.{Mmu}
 use Rattle.session.specs.Session.{startOf, settingsSaid}
 use Rattle.bundle.specs.declared.Parts.{Parts}
 use Rattle.bundle.specs.Parts.{readOf}
-use Rattle.bundle_run.specs.Parts.{partsText, partsEnd, partsMmu}
+use Rattle.bundle_run.specs.Parts.{partsText, partsEnd, partsMmu, roomOf}
 use Rattle.run.specs.declared.Ran.{Ran}
 use Rattle.run.specs.declared.Ran.the-variants.{Wrote, TooShort}
--- what the calls on an image print and ask for too
-unfoldable pub use Rattle.bundle_run.specs.Parts.{printed, roomOf}
 
 -- the first of two answers that refuses
 unfoldable pub firstOf : Said → Said → Said

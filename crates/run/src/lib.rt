@@ -4,7 +4,8 @@ use state::Mmu;
 ghost use mathlib.Core.Path.{_≡_};
 ghost use Prim.Native.Nat.{_≤_};
 ghost use lib.ListN.{length};
-ghost use Rattle.run.specs.Run.{firstOf, roomOf, tooShort, outputOf, endRamOf, ranOf, ranMmu, ranBuffer, WroteWithin};
+ghost use Rattle.bundle_run.specs.Parts.{roomOf};
+ghost use Rattle.run.specs.Run.{firstOf, tooShort, outputOf, endRamOf, ranOf, ranMmu, ranBuffer, WroteWithin};
 
 // How many bytes of output were put, or that a buffer is too short.
 pub enum Ran {
