@@ -4,6 +4,7 @@ use native.Mathlib.Nat.{zero-mod, add-zero}
 use mathlib.Core.Path.{_≡_, ap, _∙_}
 use mathlib.Core.Bool.{true, false}
 use Rattle.bits.specs.Bits.{withLow}
+use Rattle.scheme.specs.Scheme.{formatOf}
 use Rattle.walk.specs.Answer.{physicalOf}
 use Rattle.walk.specs.declared.Access.{Access}
 use Rattle.entry.specs.declared.TlbEntry.{TlbEntry}
@@ -20,7 +21,7 @@ module _ (m : Mmu) (q : Access) (e : TlbEntry) where
   pub found-hit : entryPermits e q ≡ true
       → _≡_ {A = Served}
       (record {
-        said = okAt 0 (physicalOf (e .ppn) (m .scheme .«offset_bits» + e .«mask_bits») (q .vaddr)) (m .tlb .config .«hit_latency»);
+        said = okAt 0 (physicalOf (formatOf (m .scheme)) (e .ppn) (m .scheme .«offset_bits» + e .«mask_bits») (q .vaddr)) (m .tlb .config .«hit_latency»);
         mmu = withTlb m (tallied 1 0 0 (m .tlb));
       })
       (foundServed m e q)

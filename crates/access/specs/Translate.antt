@@ -4,14 +4,15 @@ use mathlib.Core.Bool.{Bool, true, false, not, cond, _&&_, _||_}
 use mathlib.Core.List.{List}
 use Rattle.pte.specs.Entry.{ppnOf}
 use Rattle.scheme.specs.Access.{causeOf}
+use Rattle.scheme.specs.Scheme.{formatOf}
+use Rattle.scheme.specs.declared.PagingScheme.{PagingScheme}
 use Rattle.scheme.specs.Satp.{modeOf, asidOf, rootOf}
 use Rattle.scheme.specs.declared.access.AccessType.{AccessType}
 use Rattle.scheme.specs.declared.access.AccessType.the-variants.{Fetch, Load, Store}
 use Rattle.scheme.specs.declared.access.PrivMode.{PrivMode}
 use Rattle.scheme.specs.declared.access.PrivMode.the-variants.{U, S, M}
 use Rattle.scheme.specs.declared.satp.SatpMode.{SatpMode}
-use Rattle.scheme.specs.declared.satp.SatpMode.the-variants.{Bare, Sv32}
-use Rattle.walker.specs.Descent.{sv32}
+use Rattle.scheme.specs.declared.satp.SatpMode.the-variants.{Bare, Sv32, Sv39, Unknown}
 use Rattle.walk.specs.Rights.{allows, openTo}
 use Rattle.walk.specs.Verdict.{walkOf}
 use Rattle.walk.specs.Answer.{markedBy, physicalOf, resultOf, wordsOf}
@@ -37,6 +38,8 @@ use Rattle.access.specs.declared.Served.{Served}
 abbrev pub isBare : SatpMode → Bool
 isBare Bare = true
 isBare Sv32 = false
+isBare Sv39 = false
+isBare Unknown = false
 
 abbrev pub isMachine : PrivMode → Bool
 isMachine U = false
@@ -49,11 +52,11 @@ isStore Load = false
 isStore Store = true
 
 -- "not enabled, or Bare, or machine mode without `force_translate`", by the switches, satp and the privilege
-abbrev pub passesWith : Bool → Bool → ℕ → PrivMode → Bool
-passesWith enabled force satp mode = (not enabled || isBare (modeOf satp)) || (isMachine mode && not force)
+abbrev pub passesWith : PagingScheme → Bool → Bool → ℕ → PrivMode → Bool
+passesWith s enabled force satp mode = (not enabled || isBare (modeOf s satp)) || (isMachine mode && not force)
 
 abbrev pub bypassed : Mmu → Access → Bool
-bypassed m q = passesWith (m .enabled) (m .«force_translate») (m .satp .raw) (q .mode)
+bypassed m q = passesWith (m .scheme) (m .enabled) (m .«force_translate») (m .satp .raw) (q .mode)
 
 -- ---- the tallies
 
@@ -97,8 +100,8 @@ unfoldable pub consultOf : Mmu → Access → Consulted
 consultOf m q =
     cond (m .«tlb_enabled»)
     (record {
-      lookup = decides q (tlbProbe (m .tlb) (vpnOf m q) (asidOf (m .satp .raw)) .lookup);
-      mmu = withTlb m (tlbProbe (m .tlb) (vpnOf m q) (asidOf (m .satp .raw)) .tlb);
+      lookup = decides q (tlbProbe (m .tlb) (vpnOf m q) (asidOf (m .scheme) (m .satp .raw)) .lookup);
+      mmu = withTlb m (tlbProbe (m .tlb) (vpnOf m q) (asidOf (m .scheme) (m .satp .raw)) .tlb);
     })
     (record { lookup = Absent; mmu = m })
 
@@ -124,7 +127,7 @@ unfoldable pub foundServed : Mmu → TlbEntry → Access → Served
 foundServed m e q =
     cond (entryPermits e q)
     (record {
-      said = okAt 0 (physicalOf (e .ppn) (m .scheme .«offset_bits» + e .«mask_bits») (q .vaddr)) (m .tlb .config .«hit_latency»);
+      said = okAt 0 (physicalOf (formatOf (m .scheme)) (e .ppn) (m .scheme .«offset_bits» + e .«mask_bits») (q .vaddr)) (m .tlb .config .«hit_latency»);
       mmu = withTlb m (tallied 1 0 0 (m .tlb));
     })
     (record { said = faultOf 0 q; mmu = withTlb m (tallied 0 0 1 (m .tlb)) })
@@ -147,23 +150,23 @@ madeWith offset asid q r = record {
 }
 
 unfoldable pub madeOf : Mmu → Access → LeafAt → TlbEntry
-madeOf m q l = madeWith (m .scheme .«offset_bits») (asidOf (m .satp .raw)) q (resultOf (q .vaddr) l)
+madeOf m q l = madeWith (m .scheme .«offset_bits») (asidOf (m .scheme) (m .satp .raw)) q (resultOf (formatOf (m .scheme)) (q .vaddr) l)
 
 -- "All else is a miss, and a faulting walk adds a page fault"; with the TLB off nothing is installed
 unfoldable pub walkServed : Mmu → Access → Verdict → Served
 walkServed m q (Verdict.Page l) = record {
-  said = okAt (wordsOf (Verdict.Page l)) (physicalOf (ppnOf (l .raw)) (l .shift) (q .vaddr)) (m .tlb .config .«miss_penalty»);
+  said = okAt (wordsOf (formatOf (m .scheme)) (q .vaddr) (Verdict.Page l)) (physicalOf (formatOf (m .scheme)) (ppnOf (l .raw)) (l .shift) (q .vaddr)) (m .tlb .config .«miss_penalty»);
   mmu = withTlb m
       (cond (m .«tlb_enabled») (tlbInstall (tallied 0 1 0 (m .tlb)) (madeOf m q l)) (tallied 0 1 0 (m .tlb)));
 }
 walkServed m q (Verdict.Fault why level) = record {
-  said = faultOf (wordsOf (Verdict.Fault why level)) q;
+  said = faultOf (wordsOf (formatOf (m .scheme)) (q .vaddr) (Verdict.Fault why level)) q;
   mmu = withTlb m (tallied 0 1 1 (m .tlb));
 }
 
 -- the plain walk that a miss makes
 abbrev pub missWalk : Mmu → Access → List ℕ → Verdict
-missWalk m q ram = walkOf (m .scheme) (rootOf (m .satp .raw)) ram q
+missWalk m q ram = walkOf (m .scheme) (rootOf (m .scheme) (m .satp .raw)) ram q
 
 abbrev pub lookServed : Mmu → Access → List ℕ → Lookup → Served
 lookServed m q ram (Found e) = foundServed m e q
@@ -171,7 +174,7 @@ lookServed m q ram Absent = walkServed m q (missWalk m q ram)
 
 abbrev pub lookRam : Mmu → Access → List ℕ → Lookup → List ℕ
 lookRam m q ram (Found e) = ram
-lookRam m q ram Absent = markedBy sv32 (q .kind) ram (missWalk m q ram)
+lookRam m q ram Absent = markedBy (formatOf (m .scheme)) (q .kind) ram (missWalk m q ram)
 
 -- what translate answers and leaves
 unfoldable pub servedOf : Mmu → Access → List ℕ → Served

@@ -2,6 +2,7 @@
 // entry, and what a walk is remembered as.
 use entry::TlbEntry;
 use scheme::AccessType;
+use scheme::PagingScheme;
 use scheme::PrivMode;
 use scheme::Refusal;
 use scheme::Satp;
@@ -19,7 +20,7 @@ ghost use Rattle.access.specs.Translate.{isBare, isMachine, isStore, pas
 
 // A physical address, and how long the access stalls.
 pub struct Place {
-    pub paddr: u32,
+    pub paddr: u64,
     pub stall: u8,
 }
 
@@ -52,6 +53,8 @@ fn is_bare(mode: SatpMode) -> bool
     match mode {
         SatpMode::Bare => true,
         SatpMode::Sv32 => false,
+        SatpMode::Sv39 => false,
+        SatpMode::Unknown => false,
     }
 }
 
@@ -76,10 +79,10 @@ fn is_store(kind: AccessType) -> bool
 }
 
 // Whether an access is handed its own address.
-pub fn passes(enabled: bool, force: bool, satp: Satp, mode: PrivMode) -> bool
-    ensures { λ r. ⌜ r ≡ passesWith enabled force (satp .raw) mode ⌝ }
+pub fn passes(s: PagingScheme, enabled: bool, force: bool, satp: Satp, mode: PrivMode) -> bool
+    ensures { λ r. ⌜ r ≡ passesWith s enabled force (satp .raw) mode ⌝ }
 {
-    let bare = is_bare(satp.mode());
+    let bare = is_bare(s.satp_mode(satp));
     let machine = is_machine(mode);
     (!enabled | bare) | (machine & !force)
 }
@@ -122,7 +125,7 @@ pub fn decide(found: Lookup, q: Access) -> Lookup
     Lookup::Found(e)
 }
 
-pub fn ok_at(words: u32, paddr: u32, stall: u8) -> Answer
+pub fn ok_at(words: u32, paddr: u64, stall: u8) -> Answer
     ensures { λ r. ⌜ r ≡ okAt words paddr stall ⌝ }
 {
     Answer {
@@ -152,7 +155,7 @@ pub fn serve_found(m: Mmu, e: TlbEntry, q: Access) -> Served
     let p = e.perms;
     if walk::permits(p, kind) & walk::open_to(p, mode) {
         let page_bits = m.scheme.offset_bits as u32 + e.mask_bits as u32;
-        let paddr = walk::build_paddr(e.ppn, page_bits, q.vaddr);
+        let paddr = walk::build_paddr(m.scheme.format(), e.ppn, page_bits, q.vaddr);
         return Served {
             said: ok_at(0, paddr, m.tlb.config.hit_latency),
             mmu: counted(m, 1, 0, 0),
@@ -170,10 +173,11 @@ pub fn made(offset: u8, asid: u16, q: Access, r: WalkResult) -> TlbEntry
     ensures { λ e. ⌜ e ≡ madeWith offset asid q r ⌝ }
 {
     let class = bits_above(r.page_bits, offset as u32);
-    let vpn = bits::with_low(bits::shr32(q.vaddr, offset), 0, class);
+    let vpn = bits::with_low(bits::shr64(q.vaddr, offset), 0, class);
     let kind = q.kind;
     let dirty = is_store(kind);
     let perms = r.perms;
+    let mask_bits = class as u8;
     TlbEntry {
         vpn,
         ppn: r.ppn,
@@ -184,7 +188,7 @@ pub fn made(offset: u8, asid: u16, q: Access, r: WalkResult) -> TlbEntry
         global: r.global,
         accessed: true,
         dirty,
-        mask_bits: class as u8,
+        mask_bits,
         ref_bit: false,
     }
 }

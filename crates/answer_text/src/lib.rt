@@ -5,7 +5,7 @@ ghost use lib.ListN.{length};
 ghost use Rattle.writer.specs.Put.{Put};
 ghost use Rattle.text.specs.Lines.{okLine, faultLine, answerLine, causeIn};
 
-fn put_ok(out: &mut [u8], at: usize, va: u32, pa: u32, stall: u8) -> usize
+fn put_ok(out: &mut [u8], at: usize, va: u64, pa: u64, stall: u8) -> usize
     requires { ⌜ at + 25 ≤ length (now out) ⌝ }
     ensures { λ r. ⌜ Put 25 (now (out .entry)) (now (out .exit)) at r (okLine va pa stall) ⌝ }
 {
@@ -16,7 +16,7 @@ fn put_ok(out: &mut [u8], at: usize, va: u32, pa: u32, stall: u8) -> usize
     writer::put_bytes(out, d, b"\n")
 }
 
-fn put_fault(out: &mut [u8], at: usize, va: u32, cause: u32) -> usize
+fn put_fault(out: &mut [u8], at: usize, va: u64, cause: u32) -> usize
     requires { ⌜ (at + 25 ≤ length (now out)) × (cause < 1000) ⌝ }
     ensures { λ r. ⌜ Put 25 (now (out .entry)) (now (out .exit)) at r (faultLine va cause) ⌝ }
 {
@@ -26,7 +26,7 @@ fn put_fault(out: &mut [u8], at: usize, va: u32, cause: u32) -> usize
 }
 
 // The line of the access at va: `va ok pa stall` or `va fault cause`, and `refused N` where it was refused.
-pub fn put_answer(out: &mut [u8], at: usize, va: u32, outcome: Outcome) -> usize
+pub fn put_answer(out: &mut [u8], at: usize, va: u64, outcome: Outcome) -> usize
     requires { ⌜ (at + 25 ≤ length (now out)) × (causeIn outcome < 1000) ⌝ }
     ensures { λ r. ⌜ Put 25 (now (out .entry)) (now (out .exit)) at r (answerLine va outcome) ⌝ }
 {

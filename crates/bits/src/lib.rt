@@ -1,23 +1,23 @@
-// Fields of 32-bit words by masks and shifts, said in plain arithmetic. All are total: 32 bits or more are the whole word.
+// Fields of 64-bit words by masks and shifts, said in plain arithmetic. All are total: 64 bits or more are the whole word.
 ghost use mathlib.Core.Path.{_≡_};
 ghost use Prim.Native.Nat.{_/_, _%_, _^_, _<_};
 ghost use Rattle.bits.specs.Bits.{withLow};
 
 // The k low bits of x.
-pub fn low_bits(x: u32, k: u32) -> u32
+pub fn low_bits(x: u64, k: u32) -> u64
     ensures { λ r. ⌜ (r ≡ x % 2 ^ k) × (r < 2 ^ k) ⌝ }
 {
-    if 31 < k {
+    if 63 < k {
         return x;
     }
-    x & ((1u32 << k) - 1)
+    x & ((1u64 << k) - 1)
 }
 
 // x with its k low bits taken from y.
-pub fn with_low(x: u32, y: u32, k: u32) -> u32
+pub fn with_low(x: u64, y: u64, k: u32) -> u64
     ensures { λ r. ⌜ r ≡ withLow k x y ⌝ }
 {
-    if 31 < k {
+    if 63 < k {
         return y;
     }
     let high = (x >> k) << k;
@@ -25,8 +25,8 @@ pub fn with_low(x: u32, y: u32, k: u32) -> u32
 }
 
 // x without its k low bits, moved down.
-pub fn shr32(x: u32, k: u8) -> u32
+pub fn shr64(x: u64, k: u8) -> u64
     ensures { λ r. ⌜ r ≡ x / 2 ^ k ⌝ }
 {
-    if k < 32 { x >> k } else { 0 }
+    if k < 64 { x >> k } else { 0 }
 }

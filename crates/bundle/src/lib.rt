@@ -85,7 +85,7 @@ fn settings_at(file: &[u8], at: usize) -> Settings
 {
     let scheme = scheme_at(file, at);
     let switches = file[at + 12];
-    let satp = u32_at(file, at + 16);
+    let satp = u32_at(file, at + 16) as u64;
     Settings {
         scheme,
         enabled: switches & 0x1 != 0,
@@ -101,7 +101,7 @@ fn spec_at(file: &[u8], at: usize) -> PageMapSpec
 {
     let rule = codes::rule_from(file[at]);
     let kind = codes::kind_from(file[at + 1], u32_at(file, at + 4));
-    let flags = Pte::new(file[at + 2] as u32);
+    let flags = Pte::new(file[at + 2] as u64);
     let perms = flags.perms();
     let global = flags.global();
     PageMapSpec {
@@ -210,7 +210,7 @@ pub fn event_at(file: &[u8], at: usize) -> Event
     requires { ⌜ at + 8 ≤ length (now file) ⌝ }
     ensures { λ r. ⌜ r ≡ eventAt (now (file .entry)) at ⌝ }
 {
-    let vaddr = u32_at(file, at);
+    let vaddr = u32_at(file, at) as u64;
     let kind = codes::access_from(file[at + 4]);
     let mode = codes::mode_from(file[at + 5]);
     let operation = file[at + 6];

@@ -59,7 +59,7 @@ toldPlace (Ok r) = r .paddr
 toldPlace (Err f) = 0
 
 unfoldable pub walkTold : WalkAnswer → List ℕ
-walkTold a = leBytes 4 (toldCause (a .answer)) ++ (leBytes 4 (toldPlace (a .answer)) ++ leBytes 4 (a .words))
+walkTold a = leBytes 4 (toldCause (a .answer)) ++ (leBytes 8 (toldPlace (a .answer)) ++ leBytes 4 (a .words))
 
 abbrev pub replyNumber : Reply → ℕ
 replyNumber (Reply.Done a) = 0
@@ -85,20 +85,20 @@ eventRam scheme root ram (Translate q) = walkRam (schemeAt scheme 0) root ram q
 eventRam scheme root ram Flush = ram
 eventRam scheme root ram (FlushAt va) = ram
 
--- 255 where `told` has fewer than 12 bytes, then 8, then the walk's own
+-- 255 where `told` has fewer than 16 bytes, then 8, then the walk's own
 unfoldable pub walkNumber : List ℕ → ℕ → List ℕ → List ℕ → List ℕ → ℕ
 walkNumber scheme root asked ram told =
-    cond (ltb (length told) 12) 255
+    cond (ltb (length told) 16) 255
     (cond (recordGiven scheme asked) (eventNumber scheme root ram (eventAt asked 0)) (numberOf BadLayout))
 
 unfoldable pub toldAfter : List ℕ → ℕ → List ℕ → List ℕ → List ℕ → List ℕ
 toldAfter scheme root asked ram told =
-    cond (ltb (length told) 12) told
+    cond (ltb (length told) 16) told
     (cond (recordGiven scheme asked) (eventTold scheme root ram (eventAt asked 0) told) told)
 
 unfoldable pub ramAfter : List ℕ → ℕ → List ℕ → List ℕ → List ℕ → List ℕ
 ramAfter scheme root asked ram told =
-    cond (ltb (length told) 12) ram
+    cond (ltb (length told) 16) ram
     (cond (recordGiven scheme asked) (eventRam scheme root ram (eventAt asked 0)) ram)
 
 -- ---- a question

@@ -63,7 +63,7 @@ fn told_cause(w: Walked) -> u32
     }
 }
 
-fn told_place(w: Walked) -> u32
+fn told_place(w: Walked) -> u64
     ensures { λ r. ⌜ r ≡ toldPlace w ⌝ }
 {
     match w {
@@ -73,19 +73,19 @@ fn told_place(w: Walked) -> u32
 }
 
 fn put_walk(told: &mut [u8], a: WalkAnswer) -> usize
-    requires { ⌜ 12 ≤ length (now told) ⌝ }
-    ensures { λ r. ⌜ Put 12 (now (told .entry)) (now (told .exit)) 0 r (walkTold a) ⌝ }
+    requires { ⌜ 16 ≤ length (now told) ⌝ }
+    ensures { λ r. ⌜ Put 16 (now (told .entry)) (now (told .exit)) 0 r (walkTold a) ⌝ }
 {
     let w = a.answer;
     let cause = told_cause(w);
     let place = told_place(w);
     let x = entry_image::put_le(told, 0, 4, cause as u64);
-    let y = entry_image::put_le(told, x, 4, place as u64);
+    let y = entry_image::put_le(told, x, 8, place);
     entry_image::put_le(told, y, 4, a.words as u64)
 }
 
-fn walk_one(s: PagingScheme, root: u32, q: Access, ram: &mut [u8], told: &mut [u8]) -> u32
-    requires { ⌜ 12 ≤ length (now told) ⌝ }
+fn walk_one(s: PagingScheme, root: u64, q: Access, ram: &mut [u8], told: &mut [u8]) -> u32
+    requires { ⌜ 16 ≤ length (now told) ⌝ }
     ensures { λ r. ⌜ (r ≡ replyNumber (walkReply s root (now (ram .entry)) q))
         × (now (ram .exit) ≡ walkRam s root (now (ram .entry)) q)
         × (now (told .exit) ≡ replyTold (walkReply s root (now (ram .entry)) q) (now (told .entry))) ⌝ }
@@ -101,12 +101,12 @@ fn walk_one(s: PagingScheme, root: u32, q: Access, ram: &mut [u8], told: &mut [u
 }
 
 // One access by a plain walk from a root frame: `told` gets the cause, the address and the count of words.
-pub fn walk(scheme: &[u8], root: u32, asked: &[u8], ram: &mut [u8], told: &mut [u8]) -> u32
+pub fn walk(scheme: &[u8], root: u64, asked: &[u8], ram: &mut [u8], told: &mut [u8]) -> u32
     ensures { λ r. ⌜ (r ≡ walkNumber (now (scheme .entry)) root (now (asked .entry)) (now (ram .entry)) (now (told .entry)))
         × (now (ram .exit) ≡ ramAfter (now (scheme .entry)) root (now (asked .entry)) (now (ram .entry)) (now (told .entry)))
         × (now (told .exit) ≡ toldAfter (now (scheme .entry)) root (now (asked .entry)) (now (ram .entry)) (now (told .entry))) ⌝ }
 {
-    if told.len() < 12 {
+    if told.len() < 16 {
         return 255;
     }
     if !record_given(scheme, asked) {

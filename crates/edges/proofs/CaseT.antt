@@ -11,12 +11,13 @@ use Rattle.bits.specs.Bits.{bit, withBit}
 use Rattle.memory.specs.Word.{readable, leAt, putAt}
 use Rattle.memory.proofs.Laws.{length-put, read-same, read-other, Apart, before, after}
 use Rattle.memory.proofs.Reading.{readable-in}
-use Rattle.scheme.specs.Scheme.{total, okWidths, validOf, widthsOf, sv32Scheme}
+use Rattle.scheme.specs.Scheme.{total, okWidths, validOf, widthsOf, sv32Scheme, boughtOf, isSv39, addressBits, formatOf}
 use Rattle.scheme.specs.declared.access.AccessType.{AccessType}
 use Rattle.scheme.specs.declared.access.AccessType.the-variants.{Fetch, Load, Store}
 use Rattle.scheme.specs.declared.access.PrivMode.the-variants.{U, S}
 use Rattle.scheme.specs.declared.refusal.Said.the-variants.{Granted}
-use Rattle.walker.specs.Descent.{sv32, frame, place, entryAt, badIf, leafIs, entryIs, metAt, follow, seek, descentOf}
+use Rattle.scheme.specs.Scheme.{sv32}
+use Rattle.walker.specs.Descent.{frame, place, entryAt, badIf, leafIs, entryIs, metAt, follow, seek, descentOf, topOk, descentIn}
 use Rattle.walker.specs.declared.Met.the-variants.{Leaf}
 use Rattle.walk.specs.Answer.{markOf, markIn}
 use Rattle.walk.specs.Verdict.{faultIf, leafJudged, judgeOf}
@@ -115,31 +116,31 @@ module _ (start : List ℕ) (bytes : Bytes start) (t : Two start 0x1F 0x0010_001
   met-second = rw (readable-second, t .second)
 
   -- an access whose entry is a leaf of the top table
-  walk-is : (q : Access) (w a : ℕ) → entryAt sv32 (q .vaddr) 1 22 10 ≡ a → metAt sv32 start 22 a ≡ Leaf w a
+  walk-is : (q : Access) (w a : ℕ) → topOk sv32 (q .vaddr) ≡ true → entryAt sv32 (q .vaddr) 1 22 10 ≡ a → metAt sv32 start 22 a ≡ Leaf w a
       → plainWalk settingsT start q ≡ leafJudged q (leafAt w a)
-  unfolding descentOf seek follow judgeOf total
-  walk-is q w a e met = rw (e, met)
+  unfolding descentOf descentIn formatOf isSv39 seek follow judgeOf total
+  walk-is q w a top e met = rw (top, e, met)
 
   -- and what its marks make of the two words
-  earns : (q : Access) (w a : ℕ) → entryAt sv32 (q .vaddr) 1 22 10 ≡ a → metAt sv32 start 22 a ≡ Leaf w a → passes settingsT q ≡ false
-      → (ram : List ℕ) {x y : ℕ} → Two (verdictMarks q (leafJudged q (leafAt w a)) ram) x y → Two (earned settingsT start q ram) x y
-  unfolding earned
-  earns q w a e met p ram two = rw (p, walk-is q w a e met) two
+  earns : (q : Access) (w a : ℕ) → topOk sv32 (q .vaddr) ≡ true → entryAt sv32 (q .vaddr) 1 22 10 ≡ a → metAt sv32 start 22 a ≡ Leaf w a → passes settingsT q ≡ false
+      → (ram : List ℕ) {x y : ℕ} → Two (verdictMarks sv32 q (leafJudged q (leafAt w a)) ram) x y → Two (earned settingsT start q ram) x y
+  unfolding earned formatOf isSv39
+  earns q w a top e met p ram two = rw (p, walk-is q w a top e met) two
 
   -- access by access; the one in S earns nothing
   all-earned : Two (allMarks settingsT start (accesses eventsT) start) 0xDF 0x0010_005F
-  unfolding allMarks accesses entryAt place frame verdictMarks leafJudged faultIf withBit bit
+  unfolding allMarks accesses topOk isSv39 entryAt place frame verdictMarks leafJudged faultIf withBit bit
   all-earned =
-      let one = earns (asked 0x1000 Load U) _ _ refl met-first refl _ (mark-first Load start _ _ 0x5F t (lit< tt) refl) in
-      let two = earns (asked 0x3F_FFFC Load U) _ _ refl met-first refl _ (mark-first Load _ _ _ 0x5F one (lit< tt) refl) in
-      let three = earns (asked 0x2000 Store U) _ _ refl met-first refl _ (mark-first Store _ _ _ 0xDF two (lit< tt) refl) in
-      let four = earns (asked 0x2004 Store U) _ _ refl met-first refl _ (mark-first Store _ _ _ 0xDF three (lit< tt) refl) in
-      let five = earns (asked 0 Load S) _ _ refl met-first refl _ four in
-      earns (asked 0x40_0000 Fetch U) _ _ refl met-second refl _ (mark-second Fetch _ _ _ 0x0010_005F five (lit< tt) refl)
+      let one = earns (asked 0x1000 Load U) _ _ refl refl met-first refl _ (mark-first Load start _ _ 0x5F t (lit< tt) refl) in
+      let two = earns (asked 0x3F_FFFC Load U) _ _ refl refl met-first refl _ (mark-first Load _ _ _ 0x5F one (lit< tt) refl) in
+      let three = earns (asked 0x2000 Store U) _ _ refl refl met-first refl _ (mark-first Store _ _ _ 0xDF two (lit< tt) refl) in
+      let four = earns (asked 0x2004 Store U) _ _ refl refl met-first refl _ (mark-first Store _ _ _ 0xDF three (lit< tt) refl) in
+      let five = earns (asked 0 Load S) _ _ refl refl met-first refl _ four in
+      earns (asked 0x40_0000 Fetch U) _ _ refl refl met-second refl _ (mark-second Fetch _ _ _ 0x0010_005F five (lit< tt) refl)
 
   -- whatever the cache did
   ends : Two (endRam eventsT (startOf configT settingsT) start) 0xDF 0x0010_005F
-  unfolding validOf okWidths total entriesFor powUp
+  unfolding boughtOf validOf isSv39 addressBits okWidths total entriesFor powUp
   ends =
       let ready : Ready settingsT = record { valid = refl; four = refl } in
       let empty = start-is-empty settingsT ready configT refl in
@@ -149,7 +150,7 @@ module _ (start : List ℕ) (bytes : Bytes start) (t : Two start 0x1F 0x0010_001
 -- ---- the installed words
 
 said-T : refusalOf sv32Scheme mapT windowT 4096 8192 ≡ Granted
-unfolding refusalOf refuseIf validOf okWidths total barred roomAt room sumFrom opens planOf
+unfolding refusalOf refuseIf boughtOf validOf isSv39 addressBits okWidths total barred roomAt room sumFrom opens planOf
 said-T = refl
 
 module _ (ram : List ℕ) (holds : Holds ram (tableWrites (planOf sv32Scheme mapT windowT) (widthsOf sv32Scheme) 0 4096)) where

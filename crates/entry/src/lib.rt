@@ -15,10 +15,10 @@ pub enum ReplacementPolicy {
     Random,
 }
 
-// The wide fields first, so that an entry takes 24 bytes.
+// The wide fields first, so that an entry takes 32 bytes.
 pub struct TlbEntry {
-    pub vpn: u32,
-    pub ppn: u32,
+    pub vpn: u64,
+    pub ppn: u64,
     pub age: u32,
     pub asid: u16,
     pub perms: pte::PtePerms,
@@ -77,11 +77,11 @@ pub fn default_config() -> TlbConfig
 }
 
 // Whether a cached entry answers for a page of an address space. One test with no branch.
-pub fn matches(e: TlbEntry, vpn: u32, asid: u16) -> bool
+pub fn matches(e: TlbEntry, vpn: u64, asid: u16) -> bool
     ensures { λ r. ⌜ r ≡ matchesOf e vpn asid ⌝ }
 {
     let m = e.mask_bits;
-    let same = bits::shr32(e.vpn, m) == bits::shr32(vpn, m);
+    let same = bits::shr64(e.vpn, m) == bits::shr64(vpn, m);
     e.valid & (e.global | (e.asid == asid)) & same
 }
 
@@ -150,7 +150,7 @@ pub fn unreferenced(e: TlbEntry) -> TlbEntry
 }
 
 // An entry after a flush: of everything, or of one page in every address space.
-pub fn cleared(all: bool, e: TlbEntry, vpn: u32) -> TlbEntry
+pub fn cleared(all: bool, e: TlbEntry, vpn: u64) -> TlbEntry
     ensures { λ r. ⌜ r ≡ clearedOf all vpn e ⌝ }
 {
     let mut f = e;
@@ -228,9 +228,9 @@ pub fn sets_for(count: u16, ways: u8) -> usize
 }
 
 // The set that a page of a class lives in.
-pub fn set_for(sets: usize, vpn: u32, mask_bits: u8) -> usize
+pub fn set_for(sets: usize, vpn: u64, mask_bits: u8) -> usize
     requires { ⌜ 0 < sets ⌝ }
     ensures { λ r. ⌜ r ≡ (vpn / 2 ^ «mask_bits») % sets ⌝ }
 {
-    (bits::shr32(vpn, mask_bits) as usize) % sets
+    (bits::shr64(vpn, mask_bits) as usize) % sets
 }

@@ -1,6 +1,8 @@
 -- The bytes of a number, stored one after the other, and how many they are.
-use Prim.Native.Nat.{ℕ, zero, suc, _+_, _-_, _/_, _%_, _<_, _≤_}
+use Prim.Native.Nat.{ℕ, zero, suc, _+_, _-_, _*_, _/_, _%_, _<_, _≤_}
+use native.Mathlib.Nat.{add-assoc}
 use native.Mathlib.Omega.{arith}
+use Rattle.memory.specs.Word.{leAt}
 use mathlib.Core.Path.{_≡_, refl, ap}
 use mathlib.Core.List.{List}
 use lib.ListN.{length, set}
@@ -34,3 +36,7 @@ module _ (out : List ℕ) (at i n rest : ℕ) where
   no-byte h =
       let e : n - i ≡ 0 = omega arith in
       rw e
+
+pub eight : (s : List ℕ) (a : ℕ) → leAt 8 s a ≡ leAt 4 s a + 0x1_0000_0000 * leAt 4 s (a + 4)
+unfolding leAt
+eight s a = simp add-assoc (omega arith)

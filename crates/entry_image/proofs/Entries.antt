@@ -31,11 +31,11 @@ sets-all l vs e =
 pub length-read : (s : List ℕ) (p n : ℕ) → length (entriesRead s p n) ≡ n
 unfolding entriesRead
 length-read s p zero = refl
-length-read s p (suc n) = ap suc (length-read s (p + 17) n)
+length-read s p (suc n) = ap suc (length-read s (p + 25) n)
 
 module _ (s : List ℕ) (es : List TlbEntry) (p i : ℕ) where
   pub next-read : i < 128
-      → sets (set es i (entryRead s p)) (i + 1) (entriesRead s (p + 17) (128 - (i + 1))) ≡ sets es i (entriesRead s p (128 - i))
+      → sets (set es i (entryRead s p)) (i + 1) (entriesRead s (p + 25) (128 - (i + 1))) ≡ sets es i (entriesRead s p (128 - i))
   unfolding entriesRead
   next-read h =
       let e : 128 - i ≡ suc (128 - (i + 1)) = omega arith in

@@ -11,7 +11,7 @@ use Rattle.entry_image.specs.EntryImage.{refsOk}
 
 module _ (s : List ℕ) (p : ℕ) where
   pub next-ref : (left : ℕ) (ok : Bool) → 0 < left
-      → (ok && leb (byteAt s (p + 16)) 1) && refsOk s (p + 17) (left - 1) ≡ ok && refsOk s p left
+      → (ok && leb (byteAt s (p + 24)) 1) && refsOk s (p + 25) (left - 1) ≡ ok && refsOk s p left
   unfolding refsOk
   next-ref zero ok h = absurd (not-suc-le-zero h)
   next-ref (suc k) false h = refl

@@ -1,4 +1,4 @@
--- A number as bytes, and an entry of the TLB: 17 bytes, little-endian. How it is read from them.
+-- A number as bytes, and an entry of the TLB: 25 bytes, little-endian. How it is read from them.
 use Prim.Native.Nat.{ℕ, zero, suc, _+_, _/_, _%_}
 use mathlib.Core.Bool.{Bool, true, _&&_}
 use mathlib.Core.List.{List, [], _∷_, _++_}
@@ -21,11 +21,11 @@ entryFlags e =
     flag 0 (e .valid) + flag 1 (e .perms .r) + flag 2 (e .perms .w) + flag 3 (e .perms .x)
     + flag 4 (e .perms .u) + flag 5 (e .global) + flag 6 (e .accessed) + flag 7 (e .dirty)
 
--- u32 VPN, u32 PPN, u32 age, u16 ASID, class, flags, reference bit
+-- u64 VPN, u64 PPN, u32 age, u16 ASID, class, flags, reference bit
 unfoldable pub entryImage : TlbEntry → List ℕ
 entryImage e =
-    leBytes 4 (e .vpn)
-    ++ (leBytes 4 (e .ppn)
+    leBytes 8 (e .vpn)
+    ++ (leBytes 8 (e .ppn)
     ++ (leBytes 4 (e .age)
     ++ (leBytes 2 (e .asid) ++ (e .«mask_bits» ∷ entryFlags e ∷ flag 0 (e .«ref_bit») ∷ []))))
 
@@ -39,25 +39,25 @@ entriesImage (e ∷ es) = entryImage e ++ entriesImage es
 unfoldable pub entryRead : List ℕ → ℕ → TlbEntry
 entryRead s p =
     record {
-      vpn = leAt 4 s p;
-      ppn = leAt 4 s (p + 4);
-      age = leAt 4 s (p + 8);
-      asid = leAt 2 s (p + 12);
-      perms = permsOf (byteAt s (p + 15));
-      valid = validBit (byteAt s (p + 15));
-      global = globalBit (byteAt s (p + 15));
-      accessed = bit aPlace (byteAt s (p + 15));
-      dirty = bit dPlace (byteAt s (p + 15));
-      «mask_bits» = byteAt s (p + 14);
-      «ref_bit» = bit 0 (byteAt s (p + 16));
+      vpn = leAt 8 s p;
+      ppn = leAt 8 s (p + 8);
+      age = leAt 4 s (p + 16);
+      asid = leAt 2 s (p + 20);
+      perms = permsOf (byteAt s (p + 23));
+      valid = validBit (byteAt s (p + 23));
+      global = globalBit (byteAt s (p + 23));
+      accessed = bit aPlace (byteAt s (p + 23));
+      dirty = bit dPlace (byteAt s (p + 23));
+      «mask_bits» = byteAt s (p + 22);
+      «ref_bit» = bit 0 (byteAt s (p + 24));
     }
 
 -- n of them, one after the other
 unfoldable pub entriesRead : List ℕ → ℕ → ℕ → List TlbEntry
 entriesRead s p zero = []
-entriesRead s p (suc n) = entryRead s p ∷ entriesRead s (p + 17) n
+entriesRead s p (suc n) = entryRead s p ∷ entriesRead s (p + 25) n
 
 -- a reference bit is 0 or 1, in each of n entries
 unfoldable pub refsOk : List ℕ → ℕ → ℕ → Bool
 refsOk s p zero = true
-refsOk s p (suc n) = leb (byteAt s (p + 16)) 1 && refsOk s (p + 17) n
+refsOk s p (suc n) = leb (byteAt s (p + 24)) 1 && refsOk s (p + 25) n

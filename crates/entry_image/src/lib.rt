@@ -1,4 +1,4 @@
-// The TLB's entries as bytes, 17 for each, little-endian: written into a lent buffer, and read. Each function that writes does so
+// The TLB's entries as bytes, 25 for each, little-endian: written into a lent buffer, and read. Each function that writes does so
 // at `at` and answers the place after what it wrote.
 use entry::TlbEntry;
 use layout::u16_at;
@@ -9,6 +9,7 @@ ghost use mathlib.Core.Path.{_≡_};
 ghost use mathlib.Core.Bool.{cond};
 ghost use Prim.Native.Nat.{_+_, _≤_};
 ghost use lib.ListN.{length};
+ghost use Rattle.memory.specs.Word.{leAt};
 ghost use Rattle.writer.specs.Put.{Put};
 ghost use Rattle.entry_image.specs.EntryImage.{leBytes, entryFlags, entryImage, entriesImage, entryRead, entriesRead, refsOk};
 
@@ -44,22 +45,22 @@ fn entry_flags(e: TlbEntry) -> u8
 }
 
 fn put_entry(out: &mut [u8], at: usize, e: TlbEntry) -> usize
-    requires { ⌜ at + 17 ≤ length (now out) ⌝ }
-    ensures { λ r. ⌜ Put 17 (now (out .entry)) (now (out .exit)) at r (entryImage e) ⌝ }
+    requires { ⌜ at + 25 ≤ length (now out) ⌝ }
+    ensures { λ r. ⌜ Put 25 (now (out .entry)) (now (out .exit)) at r (entryImage e) ⌝ }
 {
     let flags = entry_flags(e);
     let referenced = flag(e.ref_bit, 1);
     let last = [e.mask_bits, flags, referenced];
-    let a = put_le(out, at, 4, e.vpn as u64);
-    let b = put_le(out, a, 4, e.ppn as u64);
+    let a = put_le(out, at, 8, e.vpn);
+    let b = put_le(out, a, 8, e.ppn);
     let c = put_le(out, b, 4, e.age as u64);
     let d = put_le(out, c, 2, e.asid as u64);
     put_bytes(out, d, &last)
 }
 
 pub fn put_entries(out: &mut [u8], at: usize, es: [TlbEntry; 128]) -> usize
-    requires { ⌜ at + 2176 ≤ length (now out) ⌝ }
-    ensures { λ r. ⌜ Put 2176 (now (out .entry)) (now (out .exit)) at r (entriesImage es) ⌝ }
+    requires { ⌜ at + 3200 ≤ length (now out) ⌝ }
+    ensures { λ r. ⌜ Put 3200 (now (out .entry)) (now (out .exit)) at r (entriesImage es) ⌝ }
 {
     let mut next = at;
     let mut i: usize = 0;
@@ -71,17 +72,27 @@ pub fn put_entries(out: &mut [u8], at: usize, es: [TlbEntry; 128]) -> usize
     next
 }
 
+// Eight bytes as a number.
+pub fn u64_at(s: &[u8], at: usize) -> u64
+    requires { ⌜ at + 8 ≤ length (now s) ⌝ }
+    ensures { λ r. ⌜ r ≡ leAt 8 (now (s .entry)) at ⌝ }
+{
+    let low = u32_at(s, at) as u64;
+    let high = u32_at(s, at + 4) as u64;
+    low + 0x1_0000_0000 * high
+}
+
 fn entry_in(s: &[u8], at: usize) -> TlbEntry
-    requires { ⌜ at + 17 ≤ length (now s) ⌝ }
+    requires { ⌜ at + 25 ≤ length (now s) ⌝ }
     ensures { λ r. ⌜ r ≡ entryRead (now (s .entry)) at ⌝ }
 {
-    let vpn = u32_at(s, at);
-    let ppn = u32_at(s, at + 4);
-    let age = u32_at(s, at + 8);
-    let asid = u16_at(s, at + 12) as u16;
-    let mask_bits = s[at + 14];
-    let byte = s[at + 15] as u32;
-    let referenced = s[at + 16];
+    let vpn = u64_at(s, at);
+    let ppn = u64_at(s, at + 8);
+    let age = u32_at(s, at + 16);
+    let asid = u16_at(s, at + 20) as u16;
+    let mask_bits = s[at + 22];
+    let byte = s[at + 23] as u64;
+    let referenced = s[at + 24];
     let flags = Pte::new(byte);
     let perms = flags.perms();
     TlbEntry {
@@ -100,7 +111,7 @@ fn entry_in(s: &[u8], at: usize) -> TlbEntry
 }
 
 pub fn entries_in(s: &[u8], at: usize) -> [TlbEntry; 128]
-    requires { ⌜ at + 2176 ≤ length (now s) ⌝ }
+    requires { ⌜ at + 3200 ≤ length (now s) ⌝ }
     ensures { λ r. ⌜ r ≡ entriesRead (now (s .entry)) at 128 ⌝ }
 {
     let blank = entry::blank_entry();
@@ -110,7 +121,7 @@ pub fn entries_in(s: &[u8], at: usize) -> [TlbEntry; 128]
     while i < 128 {
         let e = entry_in(s, p);
         es[i] = e;
-        p += 17;
+        p += 25;
         i += 1;
     }
     es
@@ -118,15 +129,15 @@ pub fn entries_in(s: &[u8], at: usize) -> [TlbEntry; 128]
 
 // Whether each entry's reference byte is 0 or 1.
 pub fn refs_ok(s: &[u8], at: usize) -> bool
-    requires { ⌜ at + 2176 ≤ length (now s) ⌝ }
+    requires { ⌜ at + 3200 ≤ length (now s) ⌝ }
     ensures { λ r. ⌜ r ≡ refsOk (now (s .entry)) at 128 ⌝ }
 {
     let mut ok = true;
     let mut p = at;
     let mut left: usize = 128;
     while 0 < left {
-        ok = ok & (s[p + 16] <= 1);
-        p += 17;
+        ok = ok & (s[p + 24] <= 1);
+        p += 25;
         left -= 1;
     }
     ok

@@ -47,7 +47,7 @@ pub extern "C" fn muntesulca_run_state(
         × (now (ram .exit) ≡ ranBuffer (stateShort (now (file .entry)) (length (now (ram .entry))) (length (now (out .entry))) (length (now (state .entry)))) (now (ram .entry)) (endRamOf (now (file .entry))))
         × (now (state .exit) ≡ stateBuffer (stateShort (now (file .entry)) (length (now (ram .entry))) (length (now (out .entry))) (length (now (state .entry)))) (now (file .entry)) (now (state .entry))) ⌝ }
 {
-    if state.len() < 2388 {
+    if state.len() < 3416 {
         return 0xFFFF_FFFF_FFFF_FFFF;
     }
     let k = run::run_kept(file, ram, out);
@@ -118,7 +118,7 @@ pub extern "C" fn muntesulca_install(scheme: &[u8], map: &[u8], ram: &mut [u8]) 
 #[no_mangle]
 pub extern "C" fn muntesulca_walk(
     scheme: &[u8],
-    root: u32,
+    root: u64,
     asked: &[u8],
     ram: &mut [u8],
     told: &mut [u8],

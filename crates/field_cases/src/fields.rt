@@ -2,9 +2,9 @@
 use pte::Pte;
 
 pub fn entry(raw: u32) {
-    let e = Pte::new(raw);
+    let e = Pte::new(raw as u64);
     show::text(b"pte");
-    show::hex(raw);
+    show::hex(raw as u64);
     show::flag(e.valid());
     show::flag(e.is_leaf());
     show::flag(e.global());
@@ -20,7 +20,7 @@ pub fn entry(raw: u32) {
 pub fn masks(k: u32, x: u32, y: u32) {
     show::text(b"low");
     show::num(k);
-    show::hex(bits::low_bits(x, k));
-    show::hex(bits::with_low(y, x, k));
+    show::hex(bits::low_bits(x as u64, k));
+    show::hex(bits::with_low(y as u64, x as u64, k));
     show::end();
 }

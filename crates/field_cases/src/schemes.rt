@@ -7,7 +7,7 @@ use scheme::SatpMode;
 
 fn answer(a: Asked) {
     match a {
-        Asked::Is(n) => show::hex(n),
+        Asked::Is(n) => show::hex(n as u64),
         Asked::Refused(r) => {
             show::text(b" refused");
             show::num(r.number());
@@ -59,15 +59,17 @@ pub fn scheme(s: PagingScheme) {
 }
 
 pub fn satp(raw: u32) {
-    let s = Satp::new(raw);
+    let s = Satp::new(raw as u64);
     show::text(b"satp");
-    show::hex(raw);
-    match s.mode() {
+    show::hex(raw as u64);
+    match s.mode(false) {
         SatpMode::Bare => show::text(b" bare"),
         SatpMode::Sv32 => show::text(b" sv32"),
+        SatpMode::Sv39 => show::text(b" sv39"),
+        SatpMode::Unknown => show::text(b" unknown"),
     }
-    show::num(s.asid() as u32);
-    show::hex(s.ppn());
+    show::num(s.asid(false) as u32);
+    show::hex(s.ppn(false));
     show::end();
 }
 
@@ -79,6 +81,6 @@ pub fn delta(kind: u32, mib: u32) {
     let spec = bundle::body_at(&bytes, 0).spec;
     let kind = spec.kind;
     show::text(b"delta");
-    show::hex(kind.delta_bytes());
+    show::hex(kind.delta_bytes() as u64);
     show::end();
 }

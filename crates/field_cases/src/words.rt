@@ -4,8 +4,8 @@ use script::Step;
 
 fn load(ram: &[u8], a: u32) {
     show::text(b"load");
-    show::hex(a);
-    match memory::load32(ram, a) {
+    show::hex(a as u64);
+    match memory::load(ram, a as u64, 4, 32) {
         Word::Is(w) => show::hex(w),
         Word::Unreadable => show::text(b" unreadable"),
     }
@@ -14,8 +14,8 @@ fn load(ram: &[u8], a: u32) {
 
 fn store(ram: &mut [u8], a: u32, v: u32) {
     show::text(b"store");
-    show::hex(a);
-    let done = memory::store32(ram, a, v);
+    show::hex(a as u64);
+    let done = memory::store(ram, a as u64, 4, 32, v as u64);
     show::flag(done);
     show::end();
 }

@@ -35,7 +35,7 @@ pub fn flush(m: &mut Mmu) -> Said
     t.said
 }
 
-pub fn flush_vaddr(m: &mut Mmu, vaddr: u32) -> Said
+pub fn flush_vaddr(m: &mut Mmu, vaddr: u64) -> Said
     ensures { λ r. ⌜ kept r (now (m .exit)) ≡ flushVaddrOf (now (m .entry)) vaddr ⌝ }
 {
     let t = mmu::flush_vaddr(*m, vaddr);

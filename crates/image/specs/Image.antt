@@ -1,11 +1,11 @@
--- The MMU's state as bytes: 2,388 of them, little-endian, each field at a fixed place.
+-- The MMU's state as bytes: 3,416 of them, little-endian, each field at a fixed place.
 --     0  u16 entries, ways, policy, hit latency, miss penalty, switches, zero
 --     8  the scheme's offset, level count and four widths, the TLB's own offset, zero
---    16  u32 satp, u32 age counter, u64 count, u64 sets, u64 count of the classes
---    48  u64 hits, misses, evictions, page faults
---    80  the four classes
---    84  the 128 hands
---   212  the 128 entries, 17 bytes each
+--    16  u64 satp, u32 age counter, u64 count, u64 sets, u64 count of the classes
+--    52  u64 hits, misses, evictions, page faults
+--    84  the four classes
+--    88  the 128 hands
+--   216  the 128 entries, 25 bytes each
 use Prim.Native.Nat.{ℕ, _+_}
 use mathlib.Core.Bool.{Bool, cond}
 use mathlib.Core.List.{List, [], _∷_, _++_}
@@ -45,13 +45,13 @@ abbrev pub countsOf : Tlb → List ℕ
 countsOf t =
     t .count ∷ t .sets ∷ t .«mask_count» ∷ t .stats .hits ∷ t .stats .misses ∷ t .stats .evictions ∷ t .stats .«page_faults» ∷ []
 
--- the first 80 bytes
+-- the first 84 bytes
 unfoldable pub headImage : Mmu → List ℕ
 headImage m =
     leBytes 2 (m .tlb .config .«entry_count»)
     ++ ((configRest (m .tlb .config) (switchesOf (m .enabled) (m .«force_translate») (m .«tlb_enabled»))
     ++ schemeImage (m .scheme) (m .tlb .«offset_bits»))
-    ++ (leBytes 4 (m .satp .raw) ++ (leBytes 4 (m .tlb .«age_counter») ++ wordsImage (countsOf (m .tlb)))))
+    ++ (leBytes 8 (m .satp .raw) ++ (leBytes 4 (m .tlb .«age_counter») ++ wordsImage (countsOf (m .tlb)))))
 
 -- ---- the whole
 
@@ -60,7 +60,7 @@ imageOf m =
     headImage m ++ (m .tlb .«superpage_masks» ++ (m .tlb .«clock_hands» ++ entriesImage (m .tlb .entries)))
 
 abbrev pub imageBytes : ℕ
-imageBytes = 2388
+imageBytes = 3416
 
 -- whether a buffer has room for an image
 abbrev pub roomIn : List ℕ → Bool

@@ -1,4 +1,4 @@
-// The MMU's state as bytes, written into a lent buffer: 2,388 of them, little-endian, each field at a fixed place.
+// The MMU's state as bytes, written into a lent buffer: 3,416 of them, little-endian, each field at a fixed place.
 // Each function but the last that writes does so at `at` and answers the place after what it wrote.
 use entry::ReplacementPolicy;
 use entry::TlbConfig;
@@ -76,8 +76,8 @@ fn put_words(out: &mut [u8], at: usize, ws: &[u64]) -> usize
 
 // Everything but the classes, the hands and the entries.
 fn put_head(out: &mut [u8], at: usize, m: Mmu) -> usize
-    requires { ⌜ at + 80 ≤ length (now out) ⌝ }
-    ensures { λ r. ⌜ Put 80 (now (out .entry)) (now (out .exit)) at r (headImage m) ⌝ }
+    requires { ⌜ at + 84 ≤ length (now out) ⌝ }
+    ensures { λ r. ⌜ Put 84 (now (out .entry)) (now (out .exit)) at r (headImage m) ⌝ }
 {
     let t = m.tlb;
     let config = t.config;
@@ -97,7 +97,7 @@ fn put_head(out: &mut [u8], at: usize, m: Mmu) -> usize
     ];
     let a = put_le(out, at, 2, config.entry_count as u64);
     let b = put_bytes(out, a, &bytes);
-    let c = put_le(out, b, 4, satp.raw as u64);
+    let c = put_le(out, b, 8, satp.raw);
     let d = put_le(out, c, 4, t.age_counter as u64);
     put_words(out, d, &words)
 }
@@ -106,7 +106,7 @@ fn put_head(out: &mut [u8], at: usize, m: Mmu) -> usize
 pub fn put_state(m: Mmu, out: &mut [u8]) -> bool
     ensures { λ r. ⌜ (r ≡ roomIn (now (out .entry))) × (now (out .exit) ≡ putState m (now (out .entry))) ⌝ }
 {
-    if out.len() < 2388 {
+    if out.len() < 3416 {
         return false;
     }
     let t = m.tlb;

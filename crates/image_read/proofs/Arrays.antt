@@ -1,17 +1,11 @@
--- The hands read one after the other, and numbers of eight bytes.
+-- The hands read one after the other.
 use Prim.Native.Nat.{ℕ, suc, _+_, _*_, _<_, _≤_}
-use native.Mathlib.Nat.{add-assoc}
 use native.Mathlib.Omega.{arith}
 use mathlib.Core.Path.{_≡_, _∙_}
 use mathlib.Core.List.{List}
 use lib.ListN.{length, getD, set}
 use lib.Seq.{sets, slice, slice-cons, slice-empty, length-slice}
-use Rattle.memory.specs.Word.{leAt}
 use Rattle.entry_image.proofs.Entries.{sets-all}
-
-pub eight : (s : List ℕ) (a : ℕ) → leAt 8 s a ≡ leAt 4 s a + 0x1_0000_0000 * leAt 4 s (a + 4)
-unfolding leAt
-eight s a = simp add-assoc (omega arith)
 
 -- ---- the bytes that are stored, and those that are left
 module _ (s hands : List ℕ) (at i : ℕ) where

@@ -12,9 +12,9 @@ use Rattle.state.specs.State.{stateNew}
 use Rattle.mmu.specs.Calls.{newOf}
 use Rattle.image_read.specs.Reading.{goodImage}
 
-pub good-length : (s : List ℕ) → goodImage s ≡ true → 2388 ≤ length s
+pub good-length : (s : List ℕ) → goodImage s ≡ true → 3416 ≤ length s
 unfolding goodImage
-good-length s e = omega (arith, eqb-true (length s) 2388 (and-eq-true-iff (eqb (length s) 2388) _ .0 e .0))
+good-length s e = omega (arith, eqb-true (length s) 3416 (and-eq-true-iff (eqb (length s) 3416) _ .0 e .0))
 
 -- the default configuration is never refused
 pub default-new : newOf defaultConfig .mmu ≡ stateNew defaultConfig

@@ -30,16 +30,16 @@ statsRead s p =
 unfoldable pub tlbRead : List ℕ → ℕ → Tlb
 tlbRead s p =
     record {
-      entries = entriesRead s (p + 212) 128;
-      «clock_hands» = slice (p + 84) (p + 212) s;
-      count = leAt 8 s (p + 24);
-      sets = leAt 8 s (p + 32);
-      «age_counter» = leAt 4 s (p + 20);
+      entries = entriesRead s (p + 216) 128;
+      «clock_hands» = slice (p + 88) (p + 216) s;
+      count = leAt 8 s (p + 28);
+      sets = leAt 8 s (p + 36);
+      «age_counter» = leAt 4 s (p + 24);
       config = configAt s p;
-      stats = statsRead s (p + 48);
+      stats = statsRead s (p + 52);
       «offset_bits» = byteAt s (p + 14);
-      «superpage_masks» = byteAt s (p + 80) ∷ byteAt s (p + 81) ∷ byteAt s (p + 82) ∷ byteAt s (p + 83) ∷ [];
-      «mask_count» = leAt 8 s (p + 40);
+      «superpage_masks» = byteAt s (p + 84) ∷ byteAt s (p + 85) ∷ byteAt s (p + 86) ∷ byteAt s (p + 87) ∷ [];
+      «mask_count» = leAt 8 s (p + 44);
     }
 
 -- the state of the image at p
@@ -48,7 +48,7 @@ stateAt s p =
     record {
       tlb = tlbRead s p;
       scheme = schemeAt s (p + 8);
-      satp = satpWith (leAt 4 s (p + 16));
+      satp = satpWith (leAt 8 s (p + 16));
       enabled = bit 0 (byteAt s (p + 6));
       «force_translate» = bit 1 (byteAt s (p + 6));
       «tlb_enabled» = bit 2 (byteAt s (p + 6));
@@ -62,7 +62,7 @@ unfoldable pub goodImage : List ℕ → Bool
 goodImage s =
     eqb (length s) imageBytes
     && (leb (byteAt s 3) 5
-    && (leb (byteAt s 6) 7 && ((eqb (byteAt s 7) 0 && eqb (byteAt s 15) 0) && refsOk s 212 128)))
+    && (leb (byteAt s 6) 7 && ((eqb (byteAt s 7) 0 && eqb (byteAt s 15) 0) && refsOk s 216 128)))
 
 -- 8 where the bytes are no image, and beside it the state of a new MMU with the default configuration
 unfoldable pub stateRead : List ℕ → StateRead

@@ -3,6 +3,7 @@ use bundle::config_at;
 use bundle::scheme_at;
 use entry_image::entries_in;
 use entry_image::refs_ok;
+use entry_image::u64_at;
 use layout::u32_at;
 use scheme::Refusal;
 use scheme::Said;
@@ -21,15 +22,6 @@ ghost use Rattle.image_read.specs.Reading.{statsRead, tlbRead, stateAt, 
 pub struct StateRead {
     pub said: Said,
     pub mmu: Mmu,
-}
-
-fn u64_at(s: &[u8], at: usize) -> u64
-    requires { ⌜ at + 8 ≤ length (now s) ⌝ }
-    ensures { λ r. ⌜ r ≡ leAt 8 (now (s .entry)) at ⌝ }
-{
-    let low = u32_at(s, at) as u64;
-    let high = u32_at(s, at + 4) as u64;
-    low + 0x1_0000_0000 * high
 }
 
 fn hands_in(s: &[u8], at: usize) -> [u8; 128]
@@ -62,18 +54,18 @@ fn stats_in(s: &[u8], at: usize) -> TlbStats
 }
 
 fn tlb_in(s: &[u8]) -> Tlb
-    requires { ⌜ 2388 ≤ length (now s) ⌝ }
+    requires { ⌜ 3416 ≤ length (now s) ⌝ }
     ensures { λ r. ⌜ r ≡ tlbRead (now (s .entry)) 0 ⌝ }
 {
-    let entries = entries_in(s, 212);
-    let clock_hands = hands_in(s, 84);
-    let count = u64_at(s, 24) as usize;
-    let sets = u64_at(s, 32) as usize;
-    let age_counter = u32_at(s, 20);
+    let entries = entries_in(s, 216);
+    let clock_hands = hands_in(s, 88);
+    let count = u64_at(s, 28) as usize;
+    let sets = u64_at(s, 36) as usize;
+    let age_counter = u32_at(s, 24);
     let config = config_at(s, 0);
-    let stats = stats_in(s, 48);
-    let superpage_masks = [s[80], s[81], s[82], s[83]];
-    let mask_count = u64_at(s, 40) as usize;
+    let stats = stats_in(s, 52);
+    let superpage_masks = [s[84], s[85], s[86], s[87]];
+    let mask_count = u64_at(s, 44) as usize;
     Tlb {
         entries,
         clock_hands,
@@ -89,12 +81,12 @@ fn tlb_in(s: &[u8]) -> Tlb
 }
 
 fn mmu_in(s: &[u8]) -> Mmu
-    requires { ⌜ 2388 ≤ length (now s) ⌝ }
+    requires { ⌜ 3416 ≤ length (now s) ⌝ }
     ensures { λ r. ⌜ r ≡ stateAt (now (s .entry)) 0 ⌝ }
 {
     let tlb = tlb_in(s);
     let scheme = scheme_at(s, 8);
-    let satp = Satp::new(u32_at(s, 16));
+    let satp = Satp::new(u64_at(s, 16));
     let switches = s[6];
     Mmu {
         tlb,
@@ -109,11 +101,11 @@ fn mmu_in(s: &[u8]) -> Mmu
 fn is_image(s: &[u8]) -> bool
     ensures { λ r. ⌜ r ≡ goodImage (now (s .entry)) ⌝ }
 {
-    if s.len() != 2388 {
+    if s.len() != 3416 {
         return false;
     }
     let zeros = (s[7] == 0) & (s[15] == 0);
-    (s[3] <= 5) & ((s[6] <= 7) & (zeros & refs_ok(s, 212)))
+    (s[3] <= 5) & ((s[6] <= 7) & (zeros & refs_ok(s, 216)))
 }
 
 // The state that an image holds, or refusal 8 and the default state.

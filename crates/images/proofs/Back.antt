@@ -49,24 +49,24 @@ module _ {s : List ℕ} (m : Mmu) (h : Holds s 0 (imageOf m)) (k : Held m) where
         ← four (m .scheme .«level_bits») (k .widths),
       )
 
-  classes-back : byteAt s 80 ∷ byteAt s 81 ∷ byteAt s 82 ∷ byteAt s 83 ∷ [] ≡ m .tlb .«superpage_masks»
+  classes-back : byteAt s 84 ∷ byteAt s 85 ∷ byteAt s 86 ∷ byteAt s 87 ∷ [] ≡ m .tlb .«superpage_masks»
   classes-back =
       rw (
-        class-byte m h k 0 80 refl (omega arith),
-        class-byte m h k 1 81 refl (omega arith),
-        class-byte m h k 2 82 refl (omega arith),
-        class-byte m h k 3 83 refl (omega arith),
+        class-byte m h k 0 84 refl (omega arith),
+        class-byte m h k 1 85 refl (omega arith),
+        class-byte m h k 2 86 refl (omega arith),
+        class-byte m h k 3 87 refl (omega arith),
       )
       (sym (four (m .tlb .«superpage_masks») (k .tlb .classes)))
 
-  stats-back : statsRead s 48 ≡ m .tlb .stats
+  stats-back : statsRead s 52 ≡ m .tlb .stats
   unfolding statsRead
   stats-back =
       rw (
-        tally-back m h k 3 48 (omega arith) refl (k .tlb .hits),
-        tally-back m h k 4 56 (omega arith) refl (k .tlb .misses),
-        tally-back m h k 5 64 (omega arith) refl (k .tlb .evictions),
-        tally-back m h k 6 72 (omega arith) refl (k .tlb .faults),
+        tally-back m h k 3 52 (omega arith) refl (k .tlb .hits),
+        tally-back m h k 4 60 (omega arith) refl (k .tlb .misses),
+        tally-back m h k 5 68 (omega arith) refl (k .tlb .evictions),
+        tally-back m h k 6 76 (omega arith) refl (k .tlb .faults),
       )
 
   own-back : byteAt s 14 ≡ m .tlb .«offset_bits»
@@ -78,14 +78,14 @@ module _ {s : List ℕ} (m : Mmu) (h : Holds s 0 (imageOf m)) (k : Held m) where
       rw (
         slots-back m h k,
         hands-back m h k,
-        tally-back m h k 0 24 (omega arith) refl (k .tlb .count),
-        tally-back m h k 1 32 (omega arith) refl (k .tlb .sets),
+        tally-back m h k 0 28 (omega arith) refl (k .tlb .count),
+        tally-back m h k 1 36 (omega arith) refl (k .tlb .sets),
         age-back m h k,
         config-back,
         stats-back,
         own-back,
         classes-back,
-        tally-back m h k 2 40 (omega arith) refl (k .tlb .mask-count),
+        tally-back m h k 2 44 (omega arith) refl (k .tlb .mask-count),
       )
 
   pub state-back : stateAt s 0 ≡ m

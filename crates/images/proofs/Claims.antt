@@ -25,7 +25,7 @@ stored out ys h =
 pub read-from-buffer : ReadFromBuffer
 unfolding putState
 read-from-buffer m out k room =
-    let enough : length (imageOf m) ≤ length out = rw (length-image m k) (leb-true 2388 (length out) room) in
+    let enough : length (imageOf m) ≤ length out = rw (length-image m k) (leb-true 3416 (length out) room) in
     rw room (state-back m (stored out (imageOf m) enough) k)
 
 pub image-is-good : ImageIsGood

@@ -1,4 +1,4 @@
--- An entry is read back from its 17 bytes, and so are entries in a row.
+-- An entry is read back from its 25 bytes, and so are entries in a row.
 use Prim.Native.Nat.{ℕ, suc, _+_, _*_, _<_}
 use native.Mathlib.Omega.{arith}
 use mathlib.Core.Path.{_≡_, refl, _∙_}
@@ -27,45 +27,45 @@ last5 e = leBytes 2 (e .asid) ++ last3 e
 abbrev pub last9 : TlbEntry → List ℕ
 last9 e = leBytes 4 (e .age) ++ last5 e
 
-abbrev pub last13 : TlbEntry → List ℕ
-last13 e = leBytes 4 (e .ppn) ++ last9 e
+abbrev pub last17 : TlbEntry → List ℕ
+last17 e = leBytes 8 (e .ppn) ++ last9 e
 
-pub length-entry : (e : TlbEntry) → length (entryImage e) ≡ 17
+pub length-entry : (e : TlbEntry) → length (entryImage e) ≡ 25
 unfolding entryImage leBytes
 length-entry e = refl
 
-pub length-entries : (es : List TlbEntry) → length (entriesImage es) ≡ 17 * length es
+pub length-entries : (es : List TlbEntry) → length (entriesImage es) ≡ 25 * length es
 unfolding entriesImage
 length-entries [] = refl
 length-entries (e ∷ es) = length-append (entryImage e) (entriesImage es) ∙ rw (length-entry e, length-entries es) (omega arith)
 
 module _ {s : List ℕ} (p : ℕ) (e : TlbEntry) (h : Holds s p (entryImage e)) where
-  at-ppn : Holds s (p + 4) (last13 e)
+  at-ppn : Holds s (p + 8) (last17 e)
   unfolding entryImage
-  at-ppn = right (leBytes 4 (e .vpn)) (last13 e) 4 (p + 4) (length-le 4 (e .vpn)) refl h
+  at-ppn = right (leBytes 8 (e .vpn)) (last17 e) 8 (p + 8) (length-le 8 (e .vpn)) refl h
 
-  at-age : Holds s (p + 8) (last9 e)
-  at-age = right (leBytes 4 (e .ppn)) (last9 e) 4 (p + 8) (length-le 4 (e .ppn)) (omega arith) at-ppn
+  at-age : Holds s (p + 16) (last9 e)
+  at-age = right (leBytes 8 (e .ppn)) (last9 e) 8 (p + 16) (length-le 8 (e .ppn)) (omega arith) at-ppn
 
-  at-asid : Holds s (p + 12) (last5 e)
-  at-asid = right (leBytes 4 (e .age)) (last5 e) 4 (p + 12) (length-le 4 (e .age)) (omega arith) at-age
+  at-asid : Holds s (p + 20) (last5 e)
+  at-asid = right (leBytes 4 (e .age)) (last5 e) 4 (p + 20) (length-le 4 (e .age)) (omega arith) at-age
 
-  at-last : Holds s (p + 14) (last3 e)
-  at-last = right (leBytes 2 (e .asid)) (last3 e) 2 (p + 14) (length-le 2 (e .asid)) (omega arith) at-asid
+  at-last : Holds s (p + 22) (last3 e)
+  at-last = right (leBytes 2 (e .asid)) (last3 e) 2 (p + 22) (length-le 2 (e .asid)) (omega arith) at-asid
 
-  class : byteAt s (p + 14) ≡ e .«mask_bits»
-  class = at 0 (p + 14) (omega arith) (omega arith) at-last
+  class : byteAt s (p + 22) ≡ e .«mask_bits»
+  class = at 0 (p + 22) (omega arith) (omega arith) at-last
 
-  flags : byteAt s (p + 15) ≡ packed (flagList e)
-  flags = at 1 (p + 15) (omega arith) (omega arith) at-last ∙ flags-packed e
+  flags : byteAt s (p + 23) ≡ packed (flagList e)
+  flags = at 1 (p + 23) (omega arith) (omega arith) at-last ∙ flags-packed e
 
-  pub ref-byte : byteAt s (p + 16) ≡ flag 0 (e .«ref_bit»)
-  ref-byte = at 2 (p + 16) (omega arith) (omega arith) at-last
+  pub ref-byte : byteAt s (p + 24) ≡ flag 0 (e .«ref_bit»)
+  ref-byte = at 2 (p + 24) (omega arith) (omega arith) at-last
 
-  flag-back : (k : ℕ) → bit k (byteAt s (p + 15)) ≡ getD (flagList e) k false
+  flag-back : (k : ℕ) → bit k (byteAt s (p + 23)) ≡ getD (flagList e) k false
   flag-back k = rw flags (bit-packed (flagList e) k)
 
-  ref-back : bit 0 (byteAt s (p + 16)) ≡ e .«ref_bit»
+  ref-back : bit 0 (byteAt s (p + 24)) ≡ e .«ref_bit»
   unfolding bit
   ref-back = rw ref-byte (go (e .«ref_bit»))
     where
@@ -77,8 +77,8 @@ module _ {s : List ℕ} (p : ℕ) (e : TlbEntry) (h : Holds s p (entryImage e)) 
   unfolding entryRead entryImage
   entry-back k =
       rw (
-        number 4 (e .vpn) (k .vpn) (left (leBytes 4 (e .vpn)) (last13 e) h),
-        number 4 (e .ppn) (k .ppn) (left (leBytes 4 (e .ppn)) (last9 e) at-ppn),
+        number 8 (e .vpn) (k .vpn) (left (leBytes 8 (e .vpn)) (last17 e) h),
+        number 8 (e .ppn) (k .ppn) (left (leBytes 8 (e .ppn)) (last9 e) at-ppn),
         number 4 (e .age) (k .age) (left (leBytes 4 (e .age)) (last5 e) at-age),
         number 2 (e .asid) (k .asid) (left (leBytes 2 (e .asid)) (last3 e) at-asid),
         class,
@@ -100,7 +100,7 @@ entries-back p [] k h = refl
 entries-back p (e ∷ es) k h =
     rw (
       entry-back p e (left (entryImage e) (entriesImage es) h) (k 0 (omega arith)),
-      entries-back (p + 17) es (λ i l. k (suc i) (omega arith)) (right (entryImage e) (entriesImage es) 17 (p + 17) (length-entry e) refl h),
+      entries-back (p + 25) es (λ i l. k (suc i) (omega arith)) (right (entryImage e) (entriesImage es) 25 (p + 25) (length-entry e) refl h),
     )
 
 pub refs-good : {s : List ℕ} (p : ℕ) (es : List TlbEntry) → Holds s p (entriesImage es) → refsOk s p (length es) ≡ true
@@ -110,7 +110,7 @@ refs-good p (e ∷ es) h =
     rw (
       ref-byte p e (left (entryImage e) (entriesImage es) h),
       small (e .«ref_bit»),
-      refs-good (p + 17) es (right (entryImage e) (entriesImage es) 17 (p + 17) (length-entry e) refl h),
+      refs-good (p + 25) es (right (entryImage e) (entriesImage es) 25 (p + 25) (length-entry e) refl h),
     )
   where
     small : (b : Bool) → leb (flag 0 b) 1 ≡ true

@@ -46,47 +46,47 @@ alike5 : {a a′ b b′ c c′ d d′ e e′ : List ℕ} → a ≡ a′ → b �
 alike5 p q r t u = rw (p, q, r, t, u)
 
 module _ (s : List ℕ) (bytes : (k : ℕ) → byteAt s k < 256) where
-  entry-exact : (p : ℕ) → byteAt s (p + 16) ≤ 1 → entryImage (entryRead s p) ≡ cut s p 17
+  entry-exact : (p : ℕ) → byteAt s (p + 24) ≤ 1 → entryImage (entryRead s p) ≡ cut s p 25
   unfolding entryImage entryRead entryFlags cut
   entry-exact p h =
       rw (
-        number-cut s bytes 4 p,
-        number-cut s bytes 4 (p + 4),
-        number-cut s bytes 4 (p + 8),
-        number-cut s bytes 2 (p + 12),
-        flags-exact (byteAt s (p + 15)) (bytes (p + 15)),
-        ref-exact (byteAt s (p + 16)) h,
+        number-cut s bytes 8 p,
+        number-cut s bytes 8 (p + 8),
+        number-cut s bytes 4 (p + 16),
+        number-cut s bytes 2 (p + 20),
+        flags-exact (byteAt s (p + 23)) (bytes (p + 23)),
+        ref-exact (byteAt s (p + 24)) h,
       )
       (simp add-assoc)
 
-  entries-exact : (n p : ℕ) → refsOk s p n ≡ true → entriesImage (entriesRead s p n) ≡ cut s p (17 * n)
+  entries-exact : (n p : ℕ) → refsOk s p n ≡ true → entriesImage (entriesRead s p n) ≡ cut s p (25 * n)
   unfolding entriesImage entriesRead refsOk cut
   entries-exact zero p e = refl
   entries-exact (suc n) p e =
-      let k = and-eq-true-iff (leb (byteAt s (p + 16)) 1) (refsOk s (p + 17) n) .0 e in
-      let m : 17 * suc n ≡ 17 + 17 * n = omega arith in
-      rw (entry-exact p (leb-true (byteAt s (p + 16)) 1 (k .0)), entries-exact n (p + 17) (k .1), m)
-      (cut-then s 17 (17 * n) p (p + 17) refl)
+      let k = and-eq-true-iff (leb (byteAt s (p + 24)) 1) (refsOk s (p + 25) n) .0 e in
+      let m : 25 * suc n ≡ 25 + 25 * n = omega arith in
+      rw (entry-exact p (leb-true (byteAt s (p + 24)) 1 (k .0)), entries-exact n (p + 25) (k .1), m)
+      (cut-then s 25 (25 * n) p (p + 25) refl)
 
   -- what a good string's tests say
   record Good : Type 0 where
-    long : length s ≡ 2388
+    long : length s ≡ 3416
     policy : byteAt s 3 ≤ 5
     switches : byteAt s 6 ≤ 7
     zero7 : byteAt s 7 ≡ 0
     zero15 : byteAt s 15 ≡ 0
-    refs : refsOk s 212 128 ≡ true
+    refs : refsOk s 216 128 ≡ true
 
   tests : goodImage s ≡ true → Good
   unfolding goodImage
   tests e =
-      let a = and-eq-true-iff (eqb (length s) 2388) _ .0 e in
+      let a = and-eq-true-iff (eqb (length s) 3416) _ .0 e in
       let b = and-eq-true-iff (leb (byteAt s 3) 5) _ .0 (a .1) in
       let c = and-eq-true-iff (leb (byteAt s 6) 7) _ .0 (b .1) in
       let d = and-eq-true-iff (eqb (byteAt s 7) 0 && eqb (byteAt s 15) 0) _ .0 (c .1) in
       let z = and-eq-true-iff (eqb (byteAt s 7) 0) _ .0 (d .0) in
       record {
-        long = eqb-true (length s) 2388 (a .0);
+        long = eqb-true (length s) 3416 (a .0);
         policy = leb-true (byteAt s 3) 5 (b .0);
         switches = leb-true (byteAt s 6) 7 (c .0);
         zero7 = eqb-true (byteAt s 7) 0 (z .0);
@@ -99,26 +99,26 @@ module _ (s : List ℕ) (bytes : (k : ℕ) → byteAt s k < 256) where
   front-exact g =
       rw (policy-number (byteAt s 3) (g .policy), switch-number (byteAt s 6) (g .switches), g .zero7, g .zero15)
 
-  counts-exact : wordsImage (countsOf (tlbRead s 0)) ≡ cut s 24 56
+  counts-exact : wordsImage (countsOf (tlbRead s 0)) ≡ cut s 28 56
   unfolding wordsImage tlbRead statsRead cut
   counts-exact =
       rw (
-        number-cut s bytes 8 24,
-        number-cut s bytes 8 32,
-        number-cut s bytes 8 40,
-        number-cut s bytes 8 48,
-        number-cut s bytes 8 56,
-        number-cut s bytes 8 64,
-        number-cut s bytes 8 72,
+        number-cut s bytes 8 28,
+        number-cut s bytes 8 36,
+        number-cut s bytes 8 44,
+        number-cut s bytes 8 52,
+        number-cut s bytes 8 60,
+        number-cut s bytes 8 68,
+        number-cut s bytes 8 76,
       )
 
-  head-exact : Good → headImage (stateAt s 0) ≡ cut s 0 80
+  head-exact : Good → headImage (stateAt s 0) ≡ cut s 0 84
   unfolding headImage stateAt tlbRead
   head-exact g =
-      alike5 (number-cut s bytes 2 0) (front-exact g) (number-cut s bytes 4 16) (number-cut s bytes 4 20) counts-exact
-      ∙ rw (cut-then s 4 56 20 24 refl, cut-then s 4 60 16 20 refl, cut-then s 14 64 2 16 refl) (cut-then s 2 78 0 2 refl)
+      alike5 (number-cut s bytes 2 0) (front-exact g) (number-cut s bytes 8 16) (number-cut s bytes 4 24) counts-exact
+      ∙ rw (cut-then s 4 56 24 28 refl, cut-then s 8 60 16 24 refl, cut-then s 14 68 2 16 refl) (cut-then s 2 82 0 2 refl)
 
-  classes-exact : tlbRead s 0 .«superpage_masks» ≡ cut s 80 4
+  classes-exact : tlbRead s 0 .«superpage_masks» ≡ cut s 84 4
   unfolding tlbRead cut
   classes-exact = refl
 
@@ -126,6 +126,6 @@ module _ (s : List ℕ) (bytes : (k : ℕ) → byteAt s k < 256) where
   unfolding imageOf stateAt tlbRead
   image-exact e =
       let g = tests e in
-      alike4 (head-exact g) classes-exact (cut-slice s 128 84 212 refl (rw (g .long) (omega arith))) (entries-exact 128 212 (g .refs))
-      ∙ rw (cut-then s 128 2176 84 212 refl, cut-then s 4 2304 80 84 refl, cut-then s 80 2308 0 80 refl)
-      (cut-whole s 2388 (g .long))
+      alike4 (head-exact g) classes-exact (cut-slice s 128 88 216 refl (rw (g .long) (omega arith))) (entries-exact 128 216 (g .refs))
+      ∙ rw (cut-then s 128 3200 88 216 refl, cut-then s 4 3328 84 88 refl, cut-then s 84 3332 0 84 refl)
+      (cut-whole s 3416 (g .long))

@@ -35,7 +35,7 @@ switches-small : (a b c : Bool) → leb (switchesOf a b c) 7 ≡ true
 switches-small a b c = le-leb (switchesOf a b c) 7 (omega (arith, flag-le 0 a, flag-le 1 b, flag-le 2 c))
 
 module _ (m : Mmu) (k : Held m) where
-  pub length-image : length (imageOf m) ≡ 2388
+  pub length-image : length (imageOf m) ≡ 3416
   unfolding imageOf
   length-image =
       rw (
@@ -49,8 +49,8 @@ module _ (m : Mmu) (k : Held m) where
         k .tlb .slots,
       )
 
-  refs : refsOk (imageOf m) 212 128 ≡ true
-  refs = rw (k .tlb .slots) at (refs-good 212 (m .tlb .entries) (at-entries m (whole (imageOf m)) k))
+  refs : refsOk (imageOf m) 216 128 ≡ true
+  refs = rw (k .tlb .slots) at (refs-good 216 (m .tlb .entries) (at-entries m (whole (imageOf m)) k))
 
   pub image-good : goodImage (imageOf m) ≡ true
   unfolding goodImage

@@ -41,7 +41,7 @@ abbrev pub fromAge : Mmu → List ℕ
 fromAge m = leBytes 4 (m .tlb .«age_counter») ++ wordsImage (countsOf (m .tlb))
 
 abbrev pub fromSatp : Mmu → List ℕ
-fromSatp m = leBytes 4 (m .satp .raw) ++ fromAge m
+fromSatp m = leBytes 8 (m .satp .raw) ++ fromAge m
 
 abbrev pub fromHands : Mmu → List ℕ
 fromHands m = m .tlb .«clock_hands» ++ entriesImage (m .tlb .entries)
@@ -60,17 +60,17 @@ unfolding wordsImage
 length-words [] = refl
 length-words (w ∷ ws) = length-append (leBytes 8 w) (wordsImage ws) ∙ rw (length-le 8 w, length-words ws) (omega arith)
 
-pub length-head : (m : Mmu) → length (m .scheme .«level_bits») ≡ 4 → length (headImage m) ≡ 80
+pub length-head : (m : Mmu) → length (m .scheme .«level_bits») ≡ 4 → length (headImage m) ≡ 84
 unfolding headImage
 length-head m e =
     rw (
       length-append (leBytes 2 (m .tlb .config .«entry_count»)) (front m ++ fromSatp m),
       length-append (front m) (fromSatp m),
-      length-append (leBytes 4 (m .satp .raw)) (fromAge m),
+      length-append (leBytes 8 (m .satp .raw)) (fromAge m),
       length-append (leBytes 4 (m .tlb .«age_counter»)) (wordsImage (countsOf (m .tlb))),
       length-front m e,
       length-le 2 (m .tlb .config .«entry_count»),
-      length-le 4 (m .satp .raw),
+      length-le 8 (m .satp .raw),
       length-le 4 (m .tlb .«age_counter»),
       length-words (countsOf (m .tlb)),
     )
@@ -103,21 +103,21 @@ module _ {s : List ℕ} (m : Mmu) (h : Holds s 0 (imageOf m)) (k : Held m) where
       right (front m) (fromSatp m) 14 16 (length-front m (k .widths)) refl
       (right (leBytes 2 (m .tlb .config .«entry_count»)) (front m ++ fromSatp m) 2 2 (length-le 2 _) refl at-head)
 
-  at-age : Holds s 20 (fromAge m)
-  at-age = right (leBytes 4 (m .satp .raw)) (fromAge m) 4 20 (length-le 4 _) refl at-satp
+  at-age : Holds s 24 (fromAge m)
+  at-age = right (leBytes 8 (m .satp .raw)) (fromAge m) 8 24 (length-le 8 _) refl at-satp
 
-  at-counts : Holds s 24 (wordsImage (countsOf (m .tlb)))
-  at-counts = right (leBytes 4 (m .tlb .«age_counter»)) (wordsImage (countsOf (m .tlb))) 4 24 (length-le 4 _) refl at-age
+  at-counts : Holds s 28 (wordsImage (countsOf (m .tlb)))
+  at-counts = right (leBytes 4 (m .tlb .«age_counter»)) (wordsImage (countsOf (m .tlb))) 4 28 (length-le 4 _) refl at-age
 
-  at-classes : Holds s 80 (fromClasses m)
+  at-classes : Holds s 84 (fromClasses m)
   unfolding imageOf
-  at-classes = right (headImage m) (fromClasses m) 80 80 (length-head m (k .widths)) refl h
+  at-classes = right (headImage m) (fromClasses m) 84 84 (length-head m (k .widths)) refl h
 
-  at-hands : Holds s 84 (fromHands m)
-  at-hands = right (m .tlb .«superpage_masks») (fromHands m) 4 84 (k .tlb .classes) refl at-classes
+  at-hands : Holds s 88 (fromHands m)
+  at-hands = right (m .tlb .«superpage_masks») (fromHands m) 4 88 (k .tlb .classes) refl at-classes
 
-  pub at-entries : Holds s 212 (entriesImage (m .tlb .entries))
-  at-entries = right (m .tlb .«clock_hands») (entriesImage (m .tlb .entries)) 128 212 (k .tlb .hands) refl at-hands
+  pub at-entries : Holds s 216 (entriesImage (m .tlb .entries))
+  at-entries = right (m .tlb .«clock_hands») (entriesImage (m .tlb .entries)) 128 216 (k .tlb .hands) refl at-hands
 
   -- a byte of the front
   pub front-byte : (i q : ℕ) → q ≡ 2 + i → i < 14 → byteAt s q ≡ getD (front m) i 0
@@ -132,16 +132,16 @@ module _ {s : List ℕ} (m : Mmu) (h : Holds s 0 (imageOf m)) (k : Held m) where
   pub at-own : Holds s 14 (own m)
   at-own = right (m .scheme .«level_bits») (own m) 4 14 (k .widths) refl at-widths
 
-  pub class-byte : (i q : ℕ) → q ≡ 80 + i → i < 4 → byteAt s q ≡ getD (m .tlb .«superpage_masks») i 0
+  pub class-byte : (i q : ℕ) → q ≡ 84 + i → i < 4 → byteAt s q ≡ getD (m .tlb .«superpage_masks») i 0
   class-byte i q e l = at i q e (rw (k .tlb .classes) l) (left (m .tlb .«superpage_masks») (fromHands m) at-classes)
 
-  pub hands-back : slice 84 212 s ≡ m .tlb .«clock_hands»
-  hands-back = part 128 212 (k .tlb .hands) refl (left (m .tlb .«clock_hands») (entriesImage (m .tlb .entries)) at-hands)
+  pub hands-back : slice 88 216 s ≡ m .tlb .«clock_hands»
+  hands-back = part 128 216 (k .tlb .hands) refl (left (m .tlb .«clock_hands») (entriesImage (m .tlb .entries)) at-hands)
 
-  pub slots-back : entriesRead s 212 128 ≡ m .tlb .entries
+  pub slots-back : entriesRead s 216 128 ≡ m .tlb .entries
   slots-back =
       rw (k .tlb .slots) at
-      (entries-back 212 (m .tlb .entries) (λ i l. k .tlb .entries i (rw (k .tlb .slots) at l)) at-entries)
+      (entries-back 216 (m .tlb .entries) (λ i l. k .tlb .entries i (rw (k .tlb .slots) at l)) at-entries)
 
   pub count-back : leAt 2 s 0 ≡ m .tlb .config .«entry_count»
   unfolding headImage
@@ -149,16 +149,16 @@ module _ {s : List ℕ} (m : Mmu) (h : Holds s 0 (imageOf m)) (k : Held m) where
       number 2 (m .tlb .config .«entry_count») (k .tlb .configured)
       (left (leBytes 2 (m .tlb .config .«entry_count»)) (front m ++ fromSatp m) at-head)
 
-  pub satp-back : leAt 4 s 16 ≡ m .satp .raw
-  satp-back = number 4 (m .satp .raw) (k .satp) (left (leBytes 4 (m .satp .raw)) (fromAge m) at-satp)
+  pub satp-back : leAt 8 s 16 ≡ m .satp .raw
+  satp-back = number 8 (m .satp .raw) (k .satp) (left (leBytes 8 (m .satp .raw)) (fromAge m) at-satp)
 
-  pub age-back : leAt 4 s 20 ≡ m .tlb .«age_counter»
+  pub age-back : leAt 4 s 24 ≡ m .tlb .«age_counter»
   age-back =
       number 4 (m .tlb .«age_counter») (k .tlb .age)
       (left (leBytes 4 (m .tlb .«age_counter»)) (wordsImage (countsOf (m .tlb))) at-age)
 
-  pub tally-back : (i q : ℕ) → i < 7 → q ≡ 24 + 8 * i → getD (countsOf (m .tlb)) i 0 < 2 ^ 64 → leAt 8 s q ≡ getD (countsOf (m .tlb)) i 0
-  tally-back i q l e below = word-back 24 (countsOf (m .tlb)) i q l e below at-counts
+  pub tally-back : (i q : ℕ) → i < 7 → q ≡ 28 + 8 * i → getD (countsOf (m .tlb)) i 0 < 2 ^ 64 → leAt 8 s q ≡ getD (countsOf (m .tlb)) i 0
+  tally-back i q l e below = word-back 28 (countsOf (m .tlb)) i q l e below at-counts
 
   pub switch-back : (i : ℕ) → bit i (byteAt s 6) ≡ getD (switchList m) i false
   switch-back i =

@@ -16,8 +16,8 @@ use Rattle.image_read.specs.Reading.{stateAt, goodImage, stateRead}
 -- ---- the numbers that the types hold. A byte is written as it stands, and so none of the fields of one byte needs a bound
 
 pub record EntryHeld (e : TlbEntry) : Type 0 where
-  pub vpn : e .vpn < 2 ^ 32
-  pub ppn : e .ppn < 2 ^ 32
+  pub vpn : e .vpn < 2 ^ 64
+  pub ppn : e .ppn < 2 ^ 64
   pub age : e .age < 2 ^ 32
   pub asid : e .asid < 2 ^ 16
 
@@ -39,7 +39,7 @@ pub record TlbHeld (t : Tlb) : Type 0 where
 pub record Held (m : Mmu) : Type 0 where
   pub tlb : TlbHeld (m .tlb)
   pub widths : length (m .scheme .«level_bits») ≡ 4
-  pub satp : m .satp .raw < 2 ^ 32
+  pub satp : m .satp .raw < 2 ^ 64
 
 -- ---- the claims
 

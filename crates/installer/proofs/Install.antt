@@ -10,7 +10,7 @@ use lib.Seq.{length-take-le}
 use borrow.Author.Tests.{eq-eqb, ne-eqb, eqb-true, lt-ltb, le-ltb, ltb-false, not-false}
 use Rattle.pte.specs.declared.PtePerms.{PtePerms}
 use Rattle.scheme.specs.Refusals.{numberOf, onGrant}
-use Rattle.scheme.specs.Scheme.{validOf}
+use Rattle.scheme.specs.Scheme.{boughtOf}
 use Rattle.scheme.specs.declared.PagingScheme.{PagingScheme}
 use Rattle.scheme.specs.declared.refusal.Refusal.{Refusal}
 use Rattle.scheme.specs.declared.refusal.Refusal.the-variants.{BadScheme, RootUnaligned, TopTableOutside, BadFlags, NoRoom}
@@ -47,7 +47,7 @@ at-root p g = record { good = g; inside = is-valid _ (g .fit) .some; range = ome
 
 -- ---- the refusals, by what the code has in its place of each test's term
 
-module _ (s : PagingScheme) (m : PageMapSpec) (win : Window) (root len : ℕ) (v : Bool) (is-v : v ≡ validOf s) where
+module _ (s : PagingScheme) (m : PageMapSpec) (win : Window) (root len : ℕ) (v : Bool) (is-v : v ≡ boughtOf s) where
   pub refuses-1 : not v ≡ true → Said.Refused BadScheme ≡ refusalOf s m win root len
   unfolding refusalOf refuseIf
   refuses-1 e = rw (sym is-v, e)

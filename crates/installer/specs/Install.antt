@@ -8,7 +8,7 @@ use lib.ListN.{length}
 use Rattle.pte.specs.Entry.{isLeaf, reserved}
 use Rattle.pte.specs.declared.PtePerms.{PtePerms}
 use Rattle.scheme.specs.Refusals.{onGrant}
-use Rattle.scheme.specs.Scheme.{validOf}
+use Rattle.scheme.specs.Scheme.{boughtOf}
 use Rattle.scheme.specs.declared.PagingScheme.{PagingScheme}
 use Rattle.scheme.specs.declared.refusal.Refusal.{Refusal}
 use Rattle.scheme.specs.declared.refusal.Refusal.the-variants.{BadScheme, RootUnaligned, TopTableOutside, BadFlags, NoRoom}
@@ -37,7 +37,7 @@ refuseIf false why next = next
 unfoldable pub refusalOf : PagingScheme → PageMapSpec → Window → ℕ → ℕ → Said
 refusalOf s m win root len =
     -- 1: "the scheme is not valid"
-    refuseIf (not (validOf s)) BadScheme
+    refuseIf (not (boughtOf s)) BadScheme
     -- 4: "the map's root is not a multiple of 4096"
     (refuseIf (not (eqb (root % 4096) 0)) RootUnaligned
     -- 5: "The top table must end at or below the RAM's length and 2^32"
@@ -50,7 +50,7 @@ refusalOf s m win root len =
 
 -- none of 1, 4, 5, 6 is given, in plain numbers: the theorems on 7 speak of it, and hold `refusalOf` to it
 pub record NoneBefore7 (s : PagingScheme) (m : PageMapSpec) (root len : ℕ) : Type 0 where
-  pub valid : validOf s ≡ true
+  pub valid : boughtOf s ≡ true
   pub aligned : root % 4096 ≡ 0
   pub fits : topEnd s root ≤ len
   pub top : topEnd s root ≤ 2 ^ 32

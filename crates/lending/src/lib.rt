@@ -31,7 +31,7 @@ pub struct Session {
 pub fn run_session(
     m: Mmu,
     q: Access,
-    vaddr: u32,
+    vaddr: u64,
     s: PagingScheme,
     config: TlbConfig,
     ram: &mut [u8],

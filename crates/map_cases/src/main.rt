@@ -68,7 +68,7 @@ fn install(t: Setting, s: Step) {
     said(installer::install_map_scheme(&mut ram, s.a, scheme, spec, window));
     tell::word(&ram, s.a);
     tell::word(&ram, 0xf000);
-    show::hex(digest(&ram));
+    show::hex(digest(&ram) as u64);
     show::end();
 }
 

@@ -18,7 +18,7 @@ use Rattle.maps.proofs.Rules.{said-same, ram-same}
 use Rattle.maps.proofs.Edges.{p11}
 
 pub the-sum : TheSum
-the-sum s m win root ram ok va = reaches s m win root ram ok va
+the-sum s m win root ram ok va small = reaches s m win root ram ok va small
 
 pub every-access-is-sent : EveryAccessIsSent
 every-access-is-sent s m win root ram ok q = sent s m win root ram ok q

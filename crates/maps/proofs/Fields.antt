@@ -7,7 +7,8 @@ use mathlib.Core.Bool.{Bool, true, false, cond}
 use lib.Dec.{eqb}
 use lib.Pow.{pow-add}
 use Rattle.bits.specs.Bits.{bit}
-use Rattle.pte.specs.Entry.{permsOf, globalBit, validBit, ppnOf}
+use Rattle.pte.specs.Entry.{permsOf, globalBit, validBit, ppnOf, highBits}
+use Rattle.pte.proofs.Short.{high-short}
 use Rattle.pte.specs.declared.PtePerms.{PtePerms}
 use Rattle.plan.specs.Map.{flag, flagsOf}
 
@@ -72,7 +73,16 @@ module _ (f w : ℕ) (p : PtePerms) (g : Bool) (is : w ≡ f * 1024 + flagsOf p 
       let lu = digit-low (p .u) in
       let lg = digit-low g in
       let high : w / 2 ^ 10 ≡ f = omega (arith, sum-is) in
-      ap (λ (n : ℕ). n % 2 ^ 22) high ∙ mod-eq-of-lt h
+      ap (λ (n : ℕ). n % 2 ^ 44) high ∙ mod-eq-of-lt (omega arith)
+
+  pub high-is : f < 2 ^ 22 → highBits w ≡ false
+  high-is h =
+      let lr = digit-low (p .r) in
+      let lw = digit-low (p .w) in
+      let lx = digit-low (p .x) in
+      let lu = digit-low (p .u) in
+      let lg = digit-low g in
+      high-short w (omega (arith, sum-is))
 
 -- the frame of a page of 2 ^ k bytes: x cut down to the page
 module _ (x k : ℕ) (small : x < 2 ^ 32) (page : 12 ≤ k) where

@@ -11,12 +11,13 @@ use Rattle.memory.specs.Word.{readable, leAt}
 use Rattle.pte.specs.Entry.{isLeaf, reserved}
 use Rattle.pte.specs.declared.PtePerms.{PtePerms}
 use Rattle.bits.proofs.Bools.{and-right}
-use Rattle.walker.specs.Descent.{sv32, frame, place, entryAt, metAt}
+use Rattle.scheme.specs.Scheme.{sv32}
+use Rattle.walker.specs.Descent.{frame, place, entryAt, metAt}
 use Rattle.walker.specs.declared.Met.the-variants.{Table, Leaf}
 use Rattle.walker.proofs.Cases.{leaf, is-leaf, is-table, is-entry}
 use Rattle.plan.specs.Map.{flagsOf}
 use Rattle.installer.specs.Install.{barred}
-use Rattle.maps.proofs.Fields.{valid-is, perms-are, ppn-is}
+use Rattle.maps.proofs.Fields.{valid-is, perms-are, ppn-is, high-is}
 
 not-barred : (r w x : Bool) → (not ((r || w) || x) || (w && not r)) ≡ false → ((w && not r) ≡ false) × (((r || w) || x) ≡ true)
 not-barred true w x e = (neither w, refl)
@@ -40,7 +41,7 @@ module _ (ram : List ℕ) (shift a w f : ℕ) (in-ram : readable 32 4 ram a ≡ 
       let perms = perms-are f w p g is in
       let even′ = ap not (eq-eqb _ _ (ap (λ (n : ℕ). n % 2 ^ (shift - 12)) (ppn-is f w p g is small) ∙ even)) in
       sym (is-entry sv32 ram shift a in-ram)
-      ∙ rw word (sym (is-leaf sv32 shift a w valid (ap reserved perms ∙ lets p ok .0) (ap isLeaf perms ∙ lets p ok .1)) ∙ sym (leaf sv32 shift a w even′))
+      ∙ rw word (sym (is-leaf shift a w valid (ap reserved perms ∙ lets p ok .0) (high-is f w p g is small) (ap isLeaf perms ∙ lets p ok .1)) ∙ sym (leaf shift a w even′))
 
   -- a pointer's word has the flags of a map that has none
   bare : PtePerms
@@ -52,7 +53,7 @@ module _ (ram : List ℕ) (shift a w f : ℕ) (in-ram : readable 32 4 ram a ≡ 
       let valid = ap not (valid-is f w bare false is) in
       let perms = perms-are f w bare false is in
       sym (is-entry sv32 ram shift a in-ram)
-      ∙ rw word (sym (is-table sv32 shift a w valid (ap reserved perms) (ap isLeaf perms)) ∙ ap Table (ppn-is f w bare false is small))
+      ∙ rw word (sym (is-table shift a w valid (ap reserved perms) (high-is f w bare false is small) (ap isLeaf perms)) ∙ ap Table (ppn-is f w bare false is small))
 
 pub in-space : (ram : List ℕ) (a : ℕ) → readable 32 4 ram a ≡ true → a + 4 ≤ 2 ^ 32
 unfolding readable

@@ -8,11 +8,13 @@ use mathlib.Core.List.{List, [], _∷_}
 use lib.ListN.{length, drop}
 use lib.Pow.{pow-pos, shl-shr}
 use Rattle.pte.specs.Entry.{ppnOf}
-use Rattle.scheme.specs.Scheme.{total, widthsOf}
+use Rattle.scheme.specs.Scheme.{total, widthsOf, sv32}
 use Rattle.scheme.specs.declared.PagingScheme.{PagingScheme}
 use Rattle.scheme.specs.declared.refusal.Said.the-variants.{Granted}
-use Rattle.scheme.proofs.Widths.{valid}
-use Rattle.walker.specs.Descent.{frame, descentOf, ended}
+use Rattle.scheme.proofs.Widths.{valid, bought, all-32, in-sv32}
+use Rattle.walker.proofs.Cases.{right-top}
+use borrow.Author.Tests.{eq-eqb}
+use Rattle.walker.specs.Descent.{frame, descentOf, ended, seek, topOk}
 use Rattle.walker.specs.declared.End.the-variants as End
 use Rattle.bits.specs.Bits.{withLow}
 use Rattle.walk.specs.Answer.{physicalOf}
@@ -87,13 +89,19 @@ module _ (s : PagingScheme) (m : PageMapSpec) (win : Window) (root : ℕ) (ram :
     found : Reached (planOf s m win) (installRam s m win root ram) va (widthsOf s) 0 0 (root / 4096) (levelFrom (planOf s m win) (widthsOf s) 0 va)
     unfolding planOf
     found =
-        let v = valid s (passes .0 .valid) in
+        let v = valid s (bought s (passes .0 .valid)) in
         walk-found (planOf s m win) (m .perms) (m .global) refl (passes .0 .rights) (v .offset-low) (installRam s m win root ram) va (widthsOf s) 0 root 0
-        (some-level (widthsOf s) (s .«offset_bits») (v .offset-high) (v .all-32)) (passes .0 .aligned) holds-all
+        (some-level (widthsOf s) (s .«offset_bits») (v .offset-high) (all-32 s (passes .0 .valid))) (passes .0 .aligned) holds-all
 
-    pub reaches : Reaches s m win root ram va
-    unfolding planOf descentOf frame
-    reaches =
+    -- the top of a 32-bit address is clear
+    whole-way : va < 2 ^ 32 → seek sv32 (installRam s m win root ram) va (s .«offset_bits») (widthsOf s) 0 (root / 4096) ≡ descentOf (installRam s m win root ram) (root / 4096) s va
+    unfolding descentOf topOk
+    whole-way small =
+        rw (in-sv32 s (passes .0 .valid)) (right-top sv32 _ va _ _ _ (rw (eq-eqb (va / 2 ^ 32) 0 (omega arith))))
+
+    pub reaches : va < 2 ^ 32 → Reaches s m win root ram va
+    unfolding planOf frame
+    reaches short =
         let p = planOf s m win in
         let n = leafLevel p va in
         let ws = drop (suc n) (widthsOf s) in
@@ -102,13 +110,14 @@ module _ (s : PagingScheme) (m : PageMapSpec) (win : Window) (root : ℕ) (ram :
         let k = shift p ws in
         let f = x / 2 ^ k * 2 ^ k / 4096 in
         let small : x < 2 ^ 32 = omega arith in
-        let wide : 12 ≤ k = omega (arith, valid s (passes .0 .valid) .offset-low) in
+        let wide : 12 ≤ k = omega (arith, valid s (bought s (passes .0 .valid)) .offset-low) in
         let r = subst (Reached p (installRam s m win root ram) va (widthsOf s) 0 0 (root / 4096)) (level-is p va) found in
         record {
           word = leafWord p ws b;
           at = r .at;
           ends =
-              r .ends
+              sym (whole-way short)
+              ∙ r .ends
               ∙ ap (λ (y : ℕ). ended (End.Page (leafWord p ws y) (r .at)) k (0 + n)) (base-is p va n)
               ∙ ap (ended (End.Page (leafWord p ws b) (r .at)) k) (zero-add n);
           word-is = refl;
@@ -123,24 +132,24 @@ module _ (s : PagingScheme) (m : PageMapSpec) (win : Window) (root : ℕ) (ram :
   unfolding planOf
   whole-address e va small =
       let p = planOf s m win in
-      let v = valid s (passes .0 .valid) in
+      let v = valid s (bought s (passes .0 .valid)) in
       let n = leafLevel p va in
-      let inside = level-in p va (has-length (widthsOf s) (some-level (widthsOf s) (s .«offset_bits») (v .offset-high) (v .all-32))) in
-      let bits : va < 2 ^ (s .«offset_bits» + total (widthsOf s)) = rw (v .all-32) small in
+      let inside = level-in p va (has-length (widthsOf s) (some-level (widthsOf s) (s .«offset_bits») (v .offset-high) (all-32 s (passes .0 .valid)))) in
+      let bits : va < 2 ^ (s .«offset_bits» + total (widthsOf s)) = rw (all-32 s (passes .0 .valid)) small in
       ap (λ (r : MapRule). baseBy r (s .«offset_bits») (widthsOf s) n va) e ∙ sum-whole (s .«offset_bits») (widthsOf s) n va inside bits
 
 -- ---- what a walk makes of it
 
-module _ (s : PagingScheme) (m : PageMapSpec) (win : Window) (root : ℕ) (ram : List ℕ) (ok : installSaid s m win root ram ≡ Granted) (q : Access) where
+module _ (s : PagingScheme) (m : PageMapSpec) (win : Window) (root : ℕ) (ram : List ℕ) (ok : installSaid s m win root ram ≡ Granted) (q : Access) (short : q .vaddr < 2 ^ 32) where
   here : Reaches s m win root ram (q .vaddr)
-  here = reaches s m win root ram ok (q .vaddr)
+  here = reaches s m win root ram ok (q .vaddr) short
 
   judged : leafJudged q (record { raw = here .word; at = here .at; shift = leafShift (planOf s m win) (q .vaddr); level = leafLevel (planOf s m win) (q .vaddr) })
       ≡ walkOf s (root / 4096) (installRam s m win root ram) q
   judged = at-leaf q _ (here .word) (here .at) refl ∙ ap (judgeOf q) (sym (here .ends))
 
   -- the frame is a whole page, so the low bits are the address's
-  lands : physicalOf (ppnOf (here .word)) (leafShift (planOf s m win) (q .vaddr)) (q .vaddr)
+  lands : physicalOf sv32 (ppnOf (here .word)) (leafShift (planOf s m win) (q .vaddr)) (q .vaddr)
       ≡ leafFrame (planOf s m win) (q .vaddr) + q .vaddr % 2 ^ leafShift (planOf s m win) (q .vaddr)
   lands =
       let k = leafShift (planOf s m win) (q .vaddr) in

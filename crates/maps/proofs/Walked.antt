@@ -10,7 +10,8 @@ use lib.ListN.{length, drop}
 use lib.Pow.{pow-pos}
 use Rattle.pte.specs.declared.PtePerms.{PtePerms}
 use Rattle.bits.proofs.Bools.{and-left}
-use Rattle.walker.specs.Descent.{sv32, follow, seek, ended}
+use Rattle.scheme.specs.Scheme.{sv32}
+use Rattle.walker.specs.Descent.{follow, seek, ended}
 use Rattle.walker.specs.declared.Met.the-variants.{Table, Leaf}
 use Rattle.walker.specs.declared.End.the-variants.{Page}
 use Rattle.walker.proofs.Down.{seek-cons}

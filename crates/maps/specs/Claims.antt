@@ -10,7 +10,8 @@ use Rattle.scheme.specs.Scheme.{widthsOf, shiftOf, sv32Scheme}
 use Rattle.scheme.specs.declared.PagingScheme.{PagingScheme}
 use Rattle.scheme.specs.declared.refusal.Refusal.the-variants.{NoRoom}
 use Rattle.scheme.specs.declared.refusal.Said.the-variants.{Granted, Refused}
-use Rattle.walker.specs.Descent.{sv32, frame, ended, descentOf}
+use Rattle.scheme.specs.Scheme.{sv32}
+use Rattle.walker.specs.Descent.{frame, ended, descentOf}
 use Rattle.walker.specs.declared.End.the-variants as End
 use Rattle.walker.specs.declared.Reason.the-variants.{NoRight, Privilege}
 use Rattle.walk.specs.Answer.{physicalOf}
@@ -50,7 +51,7 @@ pub record Reaches (s : PagingScheme) (m : PageMapSpec) (win : Window) (root : �
 abbrev pub TheSum : Type 0
 TheSum =
     (s : PagingScheme) (m : PageMapSpec) (win : Window) (root : ℕ) (ram : List ℕ) → installSaid s m win root ram ≡ Granted
-    → (va : ℕ) → Reaches s m win root ram va
+    → (va : ℕ) → va < 2 ^ 32 → Reaches s m win root ram va
 
 -- a walk over the installed RAM: it faults for no other reason than right and privilege, and else sends the address to that frame
 -- "with the low (shift) bits taken from the virtual address"
@@ -62,13 +63,13 @@ pub record Sent (s : PagingScheme) (m : PageMapSpec) (win : Window) (root : ℕ)
   pub goes : allows (q .kind) (m .perms) ≡ true → openTo (q .mode) (m .perms) ≡ true
       → (l : LeafAt)
       × ((walkOf s (root / 4096) (installRam s m win root ram) q ≡ Page l)
-      × (physicalOf (ppnOf (l .raw)) (l .shift) (q .vaddr)
+      × (physicalOf sv32 (ppnOf (l .raw)) (l .shift) (q .vaddr)
       ≡ leafFrame (planOf s m win) (q .vaddr) + q .vaddr % 2 ^ leafShift (planOf s m win) (q .vaddr)))
 
 abbrev pub EveryAccessIsSent : Type 0
 EveryAccessIsSent =
     (s : PagingScheme) (m : PageMapSpec) (win : Window) (root : ℕ) (ram : List ℕ) → installSaid s m win root ram ≡ Granted
-    → (q : Access) → Sent s m win root ram q
+    → (q : Access) → q .vaddr < 2 ^ 32 → Sent s m win root ram q
 
 -- under the absolute rule the sum along the path is the address itself, cut down to the leaf's page
 abbrev pub TheSumIsTheAddress : Type 0

@@ -9,7 +9,9 @@ use Rattle.scheme.specs.Scheme.{sv32Scheme}
 use Rattle.scheme.specs.declared.map.MapKind.the-variants.{Identity}
 use Rattle.scheme.specs.declared.refusal.Refusal.the-variants.{TopTableOutside}
 use Rattle.scheme.specs.declared.refusal.Said.the-variants.{Granted, Refused}
-use Rattle.walker.specs.Descent.{sv32, frame, nextTable}
+use Rattle.scheme.specs.Scheme.{sv32}
+use Rattle.walker.specs.Descent.{frame}
+use Rattle.pte.specs.Entry.{ppnOf}
 use Rattle.plan.specs.declared.MapRule.{MapRule}
 use Rattle.plan.specs.declared.MapRule.the-variants.{Relative, Absolute}
 use Rattle.plan.specs.declared.PageMapSpec.{PageMapSpec}
@@ -34,7 +36,7 @@ P11 =
     (ram : List ℕ) → length ram ≡ 69632
     → ((r : MapRule) → installSaid sv32Scheme (map11 r) window11 65536 ram ≡ Granted)
     × ((r : MapRule) → leAt 4 (ram11 r ram) 65540 ≡ 15361)
-    × (frame sv32 (nextTable sv32 15361) ≡ 61440)
+    × (frame sv32 (ppnOf 15361) ≡ 61440)
     × (leAt 4 (ram11 Relative ram) 61440 ≡ 31)
     × (leAt 4 (ram11 Absolute ram) 61440 ≡ 1048607)
 

@@ -1,4 +1,4 @@
--- Little-endian words of n bytes in RAM, a list of bytes. The size is a parameter: 4 for document 01's schemes.
+-- Little-endian words of n bytes in RAM, a list of bytes. The size is a parameter: 4 for document 01's schemes, 8 for Sv39.
 use Prim.Native.Nat.{ℕ, zero, suc, _+_, _*_, _/_, _%_, _^_}
 use mathlib.Core.List.{List}
 use mathlib.Core.Bool.{Bool, _&&_, cond}
@@ -21,10 +21,10 @@ unfoldable pub putAt : ℕ → List ℕ → ℕ → ℕ → List ℕ
 putAt zero ram a v = ram
 putAt (suc n) ram a v = putAt n (set ram a (v % 256)) (a + 1) (v / 256)
 
--- what load32 answers
-unfoldable pub wordAt : List ℕ → ℕ → Word
-wordAt ram a = cond (readable 32 4 ram a) (Is (leAt 4 ram a)) Unreadable
+-- what `load` answers
+unfoldable pub wordAt : ℕ → ℕ → List ℕ → ℕ → Word
+wordAt bits n ram a = cond (readable bits n ram a) (Is (leAt n ram a)) Unreadable
 
--- what store32 leaves: the word is written where it could be read, and else RAM stays
-unfoldable pub storeIn : List ℕ → ℕ → ℕ → List ℕ
-storeIn ram a v = cond (readable 32 4 ram a) (putAt 4 ram a v) ram
+-- what `store` leaves: the word is written where it could be read, and else RAM stays
+unfoldable pub storeIn : ℕ → ℕ → List ℕ → ℕ → ℕ → List ℕ
+storeIn bits n ram a v = cond (readable bits n ram a) (putAt n ram a v) ram

@@ -2,13 +2,16 @@
 -- then `set_scheme` tests 1 and `reconfigure` 2." "A refusal returns its number, the state it was handed (the default one from a refused
 -- `new`), and RAM as it was."
 use Prim.Native.Nat.{ℕ}
-use mathlib.Core.Bool.{Bool, cond}
+use mathlib.Core.Bool.{Bool, true, false, cond}
 use mathlib.Core.List.{List}
 use lib.Dec.{leb}
 use Rattle.scheme.specs.Scheme.{validOf}
+use Rattle.scheme.specs.Satp.{modeOf}
 use Rattle.scheme.specs.declared.PagingScheme.{PagingScheme}
+use Rattle.scheme.specs.declared.satp.SatpMode.{SatpMode}
+use Rattle.scheme.specs.declared.satp.SatpMode.the-variants.{Bare, Sv32, Sv39, Unknown}
 use Rattle.scheme.specs.declared.refusal.Refusal.{Refusal}
-use Rattle.scheme.specs.declared.refusal.Refusal.the-variants.{BadScheme, TooManyEntries, Unfit}
+use Rattle.scheme.specs.declared.refusal.Refusal.the-variants.{BadScheme, TooManyEntries, Unfit, BadMode}
 use Rattle.scheme.specs.declared.refusal.Said.the-variants as Said
 use Rattle.walk.specs.declared.Access.{Access}
 use Rattle.entry.specs.Geometry.{entriesFor, defaultConfig}
@@ -50,9 +53,23 @@ flushOf m = ifFit m (grantedWith (withTlb m (tlbFlush (m .tlb))))
 unfoldable pub flushVaddrOf : Mmu → ℕ → Kept
 flushVaddrOf m va = ifFit m (grantedWith (withTlb m (tlbFlushVaddr (m .tlb) va)))
 
+-- not "a satp mode that is neither"
+abbrev pub isKnown : SatpMode → Bool
+isKnown Bare = true
+isKnown Sv32 = true
+isKnown Sv39 = true
+isKnown Unknown = false
+
+unfoldable pub modeKnown : PagingScheme → ℕ → Bool
+modeKnown s raw = isKnown (modeOf s raw)
+
+abbrev pub stopped : Refusal → Mmu → Served
+stopped why m = record { said = record { words = 0; outcome = Outcome.Refused why }; mmu = m }
+
+-- "10, from `translate`, enabled or not, .. after 3"
 unfoldable pub translateOf : Mmu → Access → List ℕ → Served
 translateOf m q ram =
-    cond (fitOf m) (servedOf m q ram) (record { said = record { words = 0; outcome = Outcome.Refused Unfit }; mmu = m })
+    cond (fitOf m) (cond (modeKnown (m .scheme) (m .satp .raw)) (servedOf m q ram) (stopped BadMode m)) (stopped Unfit m)
 
 unfoldable pub translateRam : Mmu → Access → List ℕ → List ℕ
-translateRam m q ram = cond (fitOf m) (servedRam m q ram) ram
+translateRam m q ram = cond (fitOf m) (cond (modeKnown (m .scheme) (m .satp .raw)) (servedRam m q ram) ram) ram

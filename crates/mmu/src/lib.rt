@@ -7,6 +7,7 @@ use scheme::PagingScheme;
 use scheme::Refusal;
 use scheme::Said;
 use scheme::Satp;
+use scheme::SatpMode;
 use state::Mmu;
 use tlb::Tlb;
 use walk::Access;
@@ -14,7 +15,7 @@ ghost use mathlib.Core.Path.{_≡_};
 ghost use mathlib.Core.Bool.{true};
 ghost use Rattle.scheme.specs.Scheme.{validOf};
 ghost use Rattle.state.specs.State.{stateNew, withScheme, withTlb};
-ghost use Rattle.mmu.specs.Calls.{grantedWith, refusedWith, newOf, setSchemeOf, reconfigureOf, flushOf, flushVaddrOf, translateOf, translateRam, roomFor};
+ghost use Rattle.mmu.specs.Calls.{grantedWith, refusedWith, newOf, setSchemeOf, reconfigureOf, flushOf, flushVaddrOf, isKnown, stopped, translateOf, translateRam, roomFor};
 
 // A call that changes the state: whether it was granted, and the state.
 pub struct Kept {
@@ -134,7 +135,7 @@ pub fn flush(m: Mmu) -> Kept
 }
 
 // Clears the valid marks of the entries that answer for an address, in any address space. Refusal 3.
-pub fn flush_vaddr(m: Mmu, vaddr: u32) -> Kept
+pub fn flush_vaddr(m: Mmu, vaddr: u64) -> Kept
     ensures { λ r. ⌜ r ≡ flushVaddrOf m vaddr ⌝ }
 {
     if !state::fits(m) {
@@ -144,18 +145,38 @@ pub fn flush_vaddr(m: Mmu, vaddr: u32) -> Kept
     granted(with_tlb(m, tlb_probe::flush_vaddr(t, vaddr)))
 }
 
-// Translates an access: the address and the stall, or the page fault. Refusal 3.
+fn is_known(mode: SatpMode) -> bool
+    ensures { λ r. ⌜ r ≡ isKnown mode ⌝ }
+{
+    match mode {
+        SatpMode::Bare => true,
+        SatpMode::Sv32 => true,
+        SatpMode::Sv39 => true,
+        SatpMode::Unknown => false,
+    }
+}
+
+fn stop(why: Refusal, m: Mmu) -> Served
+    ensures { λ r. ⌜ r ≡ stopped why m ⌝ }
+{
+    Served {
+        said: Answer {
+            words: 0,
+            outcome: Outcome::Refused(why),
+        },
+        mmu: m,
+    }
+}
+
+// Translates an access: the address and the stall, or the page fault. Refusals 3, then 10.
 pub fn translate(m: Mmu, q: Access, ram: &mut [u8]) -> Served
     ensures { λ r. ⌜ (r ≡ translateOf m q (now (ram .entry))) × (now (ram .exit) ≡ translateRam m q (now (ram .entry))) ⌝ }
 {
     if !state::fits(m) {
-        return Served {
-            said: Answer {
-                words: 0,
-                outcome: Outcome::Refused(Refusal::Unfit),
-            },
-            mmu: m,
-        };
+        return stop(Refusal::Unfit, m);
+    }
+    if !is_known(m.scheme.satp_mode(m.satp)) {
+        return stop(Refusal::BadMode, m);
     }
     serve::serve(m, q, ram)
 }

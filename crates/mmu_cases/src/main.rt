@@ -13,7 +13,7 @@ fn call(m: Mmu, s: Step) -> Kept {
         b'p' => mmu::set_scheme(m, tell::scheme_of(s.a, s.b, s.c)),
         b'r' => mmu::reconfigure(m, mmu_tell::config(s.a, s.b, s.c)),
         b'f' => mmu::flush(m),
-        _ => mmu::flush_vaddr(m, s.a),
+        _ => mmu::flush_vaddr(m, s.a as u64),
     }
 }
 
@@ -21,11 +21,12 @@ fn call(m: Mmu, s: Step) -> Kept {
 fn set(m: Mmu, s: Step) -> Mmu {
     let op = s.op;
     let value = s.a;
+    let wide = value as u64;
     let i = (s.b % 128) as usize;
     let mut t = m.tlb;
     let mut n = m;
     match op {
-        b's' => n.satp.raw = value,
+        b's' => n.satp.raw = wide,
         b'e' => {
             n.enabled = value & 1 != 0;
             n.force_translate = value & 2 != 0;

@@ -92,7 +92,7 @@ fn entry(e: TlbEntry) {
     show::hex(e.ppn);
     show::num(e.asid as u32);
     show::small(e.mask_bits);
-    show::hex(e.age);
+    show::hex(e.age as u64);
     show::flag(e.dirty);
     show::flag(e.ref_bit);
     show::end();

@@ -19,7 +19,7 @@ pub calls-fit : CallsFit
 calls-fit = calls.calls-fit
 
 pub never-refused : NeverRefused
-never-refused es m ram fit = (run-granted es m ram fit, run-fit es m ram fit)
+never-refused es m ram fit known = (run-granted es m ram fit known, run-fit es m ram fit known)
 
 pub tallies-add-up : TalliesAddUp
 tallies-add-up = tallies.add-up

@@ -12,6 +12,7 @@ use borrow.Author.Tests.{eq-eqb, ne-eqb}
 use Rattle.bits.specs.Bits.{bit}
 use Rattle.memory.proofs.Reading.{readable-in}
 use Rattle.scheme.specs.Satp.{rootOf}
+use Rattle.scheme.proofs.Levels.{modest}
 use Rattle.walk.specs.Answer.{markOf}
 use Rattle.walk.specs.declared.Access.{Access}
 use Rattle.walk.specs.declared.LeafAt.{LeafAt}
@@ -61,7 +62,7 @@ module _ (s : Settings) (start : List ℕ) where
 
     -- an accepted leaf lies in RAM
     inside : (l : LeafAt) → plainWalk s start q ≡ Page l → l .at < length ram
-    inside l e = omega (arith, readable-in 32 4 start (l .at) (leaf-read q (s .scheme) (rootOf (s .satp)) start l e .in-ram), long)
+    inside l e = omega (arith, readable-in _ _ start (l .at) (leaf-read q (s .scheme) (rootOf (s .scheme) (s .satp)) start l e .in-ram), modest (s .scheme) .some, long)
 
     walk-byte : (v : Verdict) → plainWalk s start q ≡ v → Becomes (getD ram k 0) (getD (byteMarks q v ram) k 0) (pageAt v k) (isStore (q .kind) && pageAt v k)
     unfolding byteMarks pageAt

@@ -1,6 +1,6 @@
 -- Fitness is kept by every event, the settings stay, and nothing is refused.
 use Prim.Native.Nat.{ℕ, _≤_}
-use mathlib.Core.Path.{_≡_, refl, _∙_}
+use mathlib.Core.Path.{_≡_, refl, sym, subst, _∙_}
 use mathlib.Core.Bool.{Bool, true, false, cond}
 use mathlib.Core.List.{List, [], _∷_}
 use native.Mathlib.Omega.{arith}
@@ -16,10 +16,11 @@ use Rattle.caches.specs.Terms.{SameScheme}
 use Rattle.caches.proofs.Claims.{install-fits, install-same, flush-fits, flush-same, flush-vaddr-fits, flush-vaddr-same}
 use Rattle.state.specs.State.{withTlb, fitOf}
 use Rattle.access.specs.Translate.{tallied, madeOf, missWalk}
-use Rattle.mmu.specs.Calls.{flushOf, flushVaddrOf}
+use Rattle.mmu.specs.Calls.{modeKnown, flushOf, flushVaddrOf}
 use Rattle.state.specs.declared.Mmu.{Mmu}
 use Rattle.access.specs.declared.Served.{Served}
 use Rattle.session.specs.Session.{stepMmu, stepRam, endMmu}
+use Rattle.session.specs.declared.Settings.{Settings}
 use Rattle.session.specs.declared.Event.{Event}
 use Rattle.session.specs.declared.Event.the-variants.{Translate, Flush, FlushAt}
 use Rattle.order.specs.Runs.{settingsOf, outcomeRefusals, refusedBy, refusals}
@@ -56,7 +57,7 @@ module _ (m : Mmu) (fit : fitOf m ≡ true) where
     class-fits : (l : LeafAt) → missWalk m q ram ≡ Page l → madeOf m q l .«mask_bits» ≤ 19
     unfolding madeOf
     class-fits l e =
-        omega (arith, shift-within (m .scheme) (rootOf (m .satp .raw)) ram q l e (fit-valid m fit), valid (m .scheme) (fit-valid m fit) .offset-low)
+        omega (arith, shift-within (m .scheme) (rootOf (m .scheme) (m .satp .raw)) ram q l e (fit-valid m fit), valid (m .scheme) (fit-valid m fit) .offset-low)
 
     sits-filled : (l : LeafAt) (t : Tlb) → missWalk m q ram ≡ Page l → Sits m t → Sits m (filled m q l t)
     sits-filled l t e s = go (m .«tlb_enabled»)
@@ -102,32 +103,37 @@ module _ (m : Mmu) (fit : fitOf m ≡ true) where
   unfolding flushVaddrOf
   flushed-at va = rw fit
 
-  module _ (ram : List ℕ) where
+  module _ (known : modeKnown (m .scheme) (m .satp .raw) ≡ true) (ram : List ℕ) where
     pub event-fit : (e : Event) → fitOf (stepMmu e m ram) ≡ true
-    event-fit (Translate q) = case-fit q ram _ _ (translate-case m q ram fit)
+    event-fit (Translate q) = case-fit q ram _ _ (translate-case m q ram fit known)
     event-fit Flush = rw flushed (fit-with _ (sits-same m _ _ sits-self (flush-same (m .tlb)) (flush-fits (m .tlb) (tlb-fits m fit))))
     event-fit (FlushAt va) =
         rw (flushed-at va) (fit-with _ (sits-same m _ _ sits-self (flush-vaddr-same (m .tlb) va) (flush-vaddr-fits (m .tlb) va (tlb-fits m fit))))
 
     pub event-settings : (e : Event) → settingsOf (stepMmu e m ram) ≡ settingsOf m
-    event-settings (Translate q) = case-settings q ram _ _ (translate-case m q ram fit)
+    event-settings (Translate q) = case-settings q ram _ _ (translate-case m q ram fit known)
     event-settings Flush = rw flushed
     event-settings (FlushAt va) = rw (flushed-at va)
 
+    -- the settings stay, and with them the mode
+    pub event-known : (e : Event) → modeKnown (stepMmu e m ram .scheme) (stepMmu e m ram .satp .raw) ≡ true
+    event-known e = subst (λ (x : Settings). modeKnown (x .scheme) (x .satp) ≡ true) (sym (event-settings e)) known
+
     event-granted : (e : Event) (rest : List Refusal) → refusedBy e m ram rest ≡ rest
     unfolding refusedBy flushOf flushVaddrOf
-    event-granted (Translate q) rest = case-granted q ram _ _ (translate-case m q ram fit) rest
+    event-granted (Translate q) rest = case-granted q ram _ _ (translate-case m q ram fit known) rest
     event-granted Flush rest = rw fit
     event-granted (FlushAt va) rest = rw fit
 
 -- ---- a run
 
-pub run-granted : (es : List Event) (m : Mmu) (ram : List ℕ) → fitOf m ≡ true → refusals es m ram ≡ []
+pub run-granted : (es : List Event) (m : Mmu) (ram : List ℕ) → fitOf m ≡ true → modeKnown (m .scheme) (m .satp .raw) ≡ true → refusals es m ram ≡ []
 unfolding refusals
-run-granted [] m ram fit = refl
-run-granted (e ∷ es) m ram fit = event-granted m fit ram e _ ∙ run-granted es (stepMmu e m ram) (stepRam e m ram) (event-fit m fit ram e)
+run-granted [] m ram fit known = refl
+run-granted (e ∷ es) m ram fit known =
+    event-granted m fit known ram e _ ∙ run-granted es (stepMmu e m ram) (stepRam e m ram) (event-fit m fit known ram e) (event-known m fit known ram e)
 
-pub run-fit : (es : List Event) (m : Mmu) (ram : List ℕ) → fitOf m ≡ true → fitOf (endMmu es m ram) ≡ true
+pub run-fit : (es : List Event) (m : Mmu) (ram : List ℕ) → fitOf m ≡ true → modeKnown (m .scheme) (m .satp .raw) ≡ true → fitOf (endMmu es m ram) ≡ true
 unfolding endMmu
-run-fit [] m ram fit = fit
-run-fit (e ∷ es) m ram fit = run-fit es (stepMmu e m ram) (stepRam e m ram) (event-fit m fit ram e)
+run-fit [] m ram fit known = fit
+run-fit (e ∷ es) m ram fit known = run-fit es (stepMmu e m ram) (stepRam e m ram) (event-fit m fit known ram e) (event-known m fit known ram e)

@@ -7,7 +7,7 @@ use mathlib.Core.List.{List}
 use Rattle.pte.specs.Entry.{permsOf, globalBit, ppnOf}
 use Rattle.scheme.specs.Access.{causeOf}
 use Rattle.scheme.specs.Satp.{asidOf}
-use Rattle.walker.specs.Descent.{sv32}
+use Rattle.scheme.specs.Scheme.{formatOf}
 use Rattle.walk.specs.Rights.{allows, openTo}
 use Rattle.walk.specs.Answer.{markedBy, physicalOf}
 use Rattle.walk.specs.declared.Access.{Access}
@@ -31,7 +31,7 @@ module _ (s : Settings) where
       record {
         vpn = pageOf q / 2 ^ class * 2 ^ class;
         ppn = ppnOf (l .raw);
-        asid = asidOf (s .satp);
+        asid = asidOf (s .scheme) (s .satp);
         perms = permsOf (l .raw);
         global = globalBit (l .raw);
         dirty = isStore (q .kind);
@@ -42,7 +42,7 @@ module _ (s : Settings) where
   abbrev pub toldBy : Said → Access → Heard
   toldBy e q =
       cond (allows (q .kind) (e .perms) && openTo (q .mode) (e .perms))
-      (At (physicalOf (e .ppn) (s .scheme .«offset_bits» + e .«mask_bits») (q .vaddr)))
+      (At (physicalOf (formatOf (s .scheme)) (e .ppn) (s .scheme .«offset_bits» + e .«mask_bits») (q .vaddr)))
       (Faults (causeOf (q .kind)) (q .vaddr))
 
   -- the access is to the entry's page, and is no store on an entry that is not dirty; satp is one, so no ASID is asked
@@ -70,4 +70,4 @@ module _ (s : Settings) where
       Finds : passes s q ≡ false → (e : Said) → ((P : Said → Type 0) → Holds P t → P e) → Decides e q
           → Keeps t t′ → ram′ ≡ ram → x ≡ toldBy e q → Step q t ram t′ ram′ x
       Walks : passes s q ≡ false → Left q (plainWalk s ram q) t t′
-          → ram′ ≡ markedBy sv32 (q .kind) ram (plainWalk s ram q) → x ≡ verdictHeard q (plainWalk s ram q) → Step q t ram t′ ram′ x
+          → ram′ ≡ markedBy (formatOf (s .scheme)) (q .kind) ram (plainWalk s ram q) → x ≡ verdictHeard (formatOf (s .scheme)) q (plainWalk s ram q) → Step q t ram t′ ram′ x

@@ -17,7 +17,7 @@ use Rattle.memory.specs.Word.{leAt, putAt}
 use Rattle.memory.proofs.Laws.{read-other, after}
 use Rattle.scheme.specs.declared.access.AccessType.{AccessType}
 use Rattle.scheme.specs.declared.access.AccessType.the-variants.{Fetch, Load, Store}
-use Rattle.walker.specs.Descent.{sv32}
+use Rattle.scheme.specs.declared.Format.{Format}
 use Rattle.walk.specs.Answer.{markOf, markIn}
 use Rattle.walks.specs.Plain.{Bytes}
 use Rattle.walks.proofs.Bytes.{set-bytes}
@@ -184,23 +184,30 @@ put-back (suc n) ram a small =
     rw (low, high, set-getD ram a 0) (put-back n ram (a + 1) small)
 
 module _ (k : AccessType) (ram : List ℕ) (a : ℕ) (small : Bytes ram) where
-  put-marked : putAt 4 ram a (markOf k (leAt 4 ram a)) ≡ byteMarked k a ram
+  put-marked : (n : ℕ) → putAt (suc n) ram a (markOf k (leAt (suc n) ram a)) ≡ byteMarked k a ram
   unfolding putAt leAt
-  put-marked =
-      let h = leAt 3 ram (a + 1) in
+  put-marked n =
+      let h = leAt n ram (a + 1) in
       let v = markOf k (getD ram a 0 + 256 * h) in
       let is : v ≡ markOf k (getD ram a 0) + 256 * h = mark-above k (getD ram a 0) h in
       let low : v % 256 ≡ markOf k (getD ram a 0) = omega (arith, mark-small k _ (small a)) in
-      let high : v / 256 ≡ leAt 3 (set ram a (v % 256)) (a + 1) =
-      omega (arith, mark-small k _ (small a), read-other 1 ram a v 3 (a + 1) (after (omega arith))) in
+      let high : v / 256 ≡ leAt n (set ram a (v % 256)) (a + 1) =
+      omega (arith, mark-small k _ (small a), read-other 1 ram a v n (a + 1) (after (omega arith))) in
       let bytes : Bytes (set ram a (v % 256)) = rw low (byte-bytes k a ram small) in
-      ap (putAt 3 (set ram a (v % 256)) (a + 1)) high ∙ put-back 3 (set ram a (v % 256)) (a + 1) bytes ∙ ap (set ram a) low
+      ap (putAt n (set ram a (v % 256)) (a + 1)) high ∙ put-back n (set ram a (v % 256)) (a + 1) bytes ∙ ap (set ram a) low
+
+  word-at : (n : ℕ) → 0 < n → cond (eqb (markOf k (leAt n ram a)) (leAt n ram a)) ram (putAt n ram a (markOf k (leAt n ram a))) ≡ byteMarked k a ram
+  word-at zero p = absurd (omega arith)
+  word-at (suc n) p = go (eqb (markOf k w) w) refl
+    where
+      w : ℕ
+      w = leAt (suc n) ram a
+
+      go : (b : Bool) → eqb (markOf k w) w ≡ b → cond b ram (putAt (suc n) ram a (markOf k w)) ≡ byteMarked k a ram
+      go true e = sym (put-back (suc n) ram a small) ∙ ap (putAt (suc n) ram a) (sym (eqb-true _ _ e)) ∙ put-marked n
+      go false e = put-marked n
 
   -- the word at a, marked where a mark is missing
-  pub word-byte : markIn sv32 k ram a (leAt 4 ram a) ≡ byteMarked k a ram
+  pub word-byte : (f : Format) → 0 < f .bytes → markIn f k ram a (leAt (f .bytes) ram a) ≡ byteMarked k a ram
   unfolding markIn
-  word-byte = go (eqb (markOf k (leAt 4 ram a)) (leAt 4 ram a)) refl
-    where
-      go : (b : Bool) → eqb (markOf k (leAt 4 ram a)) (leAt 4 ram a) ≡ b → cond b ram (putAt 4 ram a (markOf k (leAt 4 ram a))) ≡ byteMarked k a ram
-      go true e = sym (put-back 4 ram a small) ∙ ap (putAt 4 ram a) (sym (eqb-true _ _ e)) ∙ put-marked
-      go false e = put-marked
+  word-byte f some = word-at (f .bytes) some

@@ -11,7 +11,8 @@ use Rattle.walk.specs.declared.Access.{Access}
 use Rattle.walks.specs.Plain.{Bytes}
 use Rattle.state.specs.State.{fitOf}
 use Rattle.slots.specs.Slots.{entryAt}
-use Rattle.mmu.specs.Calls.{translateOf, translateRam}
+use Rattle.mmu.proofs.Refusing.{bought-known}
+use Rattle.mmu.specs.Calls.{modeKnown, translateOf, translateRam}
 use Rattle.state.specs.declared.Mmu.{Mmu}
 use Rattle.session.specs.Session.{startOf, stepMmu, stepRam, endRam}
 use Rattle.session.specs.declared.Settings.{Settings}
@@ -23,7 +24,10 @@ use Rattle.order.specs.Claims.{Empty, PlainRun, AnyOrder, StartIsEmpty}
 use Rattle.order.proofs.Machine.{Step}
 use Rattle.order.proofs.Pages.{byteMarks, marks-byte, marks-bytes}
 use Rattle.order.proofs.Truth.{byteEarned, earned-comm, Truth, Sound, Right, step-right}
-use Rattle.order.proofs.Fit.{event-fit, event-settings, run-granted}
+use Rattle.order.proofs.Fit.{event-fit, event-known, event-settings, run-granted}
+use Rattle.order.proofs.Serves.{fit-valid}
+use Rattle.scheme.specs.Scheme.{validOf, formatOf}
+use Rattle.scheme.proofs.Levels.{modest}
 use Rattle.order.proofs.Steps.{HoldsIn, holds-imp, start-settings, start-holds, start-fit, translate-steps, flush-keeps, flush-at-keeps}
 
 -- ---- the marks of a list
@@ -36,7 +40,7 @@ module _ (s : Settings) (start : List ℕ) where
 
   earned-byte : (q : Access) (ram : List ℕ) → Bytes ram → earned s start q ram ≡ byteEarned s start q ram
   unfolding earned byteEarned
-  earned-byte q ram small = ap (cond (passes s q) ram) (marks-byte q (plainWalk s start q) ram small)
+  earned-byte q ram small = ap (cond (passes s q) ram) (marks-byte (formatOf (s .scheme)) (modest (s .scheme) .some) q (plainWalk s start q) ram small)
 
   earned-bytes : (q : Access) (ram : List ℕ) → Bytes ram → Bytes (byteEarned s start q ram)
   unfolding byteEarned
@@ -67,6 +71,7 @@ module _ (s : Settings) (start : List ℕ) where
   -- what holds between events
   record Good (m : Mmu) (ram : List ℕ) : Type 0 where
     fit : fitOf m ≡ true
+    known : modeKnown (m .scheme) (m .satp .raw) ≡ true
     settings : settingsOf m ≡ s
     sound : Sound s start HoldsIn holds-imp m ram
 
@@ -75,7 +80,7 @@ module _ (s : Settings) (start : List ℕ) where
     right q =
         step-right s start HoldsIn holds-imp q m _ ram (g .sound) _ _
         (subst (λ (x : Settings). Step x HoldsIn q m ram (translateOf m q ram .mmu) (translateRam m q ram) (heardOf (translateOf m q ram .said .outcome)))
-        (g .settings) (translate-steps m q ram (g .fit)))
+        (g .settings) (translate-steps m q ram (g .fit) (g .known)))
 
     good-sound : (e : Event) → Sound s start HoldsIn holds-imp (stepMmu e m ram) (stepRam e m ram)
     good-sound (Translate q) = right q .sound
@@ -83,7 +88,7 @@ module _ (s : Settings) (start : List ℕ) where
     good-sound (FlushAt va) = record { steady = g .sound .steady; truth = flush-at-keeps m (g .fit) (Truth s start ram) (g .sound .truth) va }
 
     good-after : (e : Event) → Good (stepMmu e m ram) (stepRam e m ram)
-    good-after e = record { fit = event-fit m (g .fit) ram e; settings = event-settings m (g .fit) ram e ∙ g .settings; sound = good-sound e }
+    good-after e = record { fit = event-fit m (g .fit) (g .known) ram e; known = event-known m (g .fit) (g .known) ram e; settings = event-settings m (g .fit) (g .known) ram e ∙ g .settings; sound = good-sound e }
 
   answers-plain : (es : List Event) (m : Mmu) (ram : List ℕ) → Good m ram → answers es m ram ≡ map (plainAnswer s start) (accesses es)
   unfolding answers accesses
@@ -103,12 +108,16 @@ module _ (s : Settings) (start : List ℕ) where
   -- ---- from an empty cache
 
   module _ (small : Bytes start) (m : Mmu) (h : Empty s m) where
+    start-known : modeKnown (m .scheme) (m .satp .raw) ≡ true
+    start-known = subst (λ (x : Settings). modeKnown (x .scheme) (x .satp) ≡ true) (sym (h .settings)) (h .known)
+
     good-start : Good m start
     good-start = record {
       fit = h .fit;
+      known = start-known;
       settings = h .settings;
       sound = record {
-        steady = record { bytes = small; same = record { long = refl; words = λ a d. refl } };
+        steady = record { bytes = small; same = record { long = refl; words = λ a d. refl }; valid = subst (λ (x : Settings). validOf (x .scheme) ≡ true) (h .settings) (fit-valid m (h .fit)) };
         truth = λ i l v. let n = h .none i l in let z : _≡_ {A = ℕ} 0 1 = cc in absurd (omega arith);
       };
     }
@@ -118,7 +127,7 @@ module _ (s : Settings) (start : List ℕ) where
 
     run-plain : (es : List Event) (l : List Access) → Perm l (accesses es) → PlainRun s start m es l
     run-plain es l p = record {
-      granted = run-granted es m start (h .fit);
+      granted = run-granted es m start (h .fit) start-known;
       each = answers-plain es m start good-start;
       ram = run-marked es ∙ sym (all-perm p start) ∙ sym (all-byte l start small);
     }
@@ -130,6 +139,7 @@ any-order s start small one two e₁ e₂ es fs p =
 pub start-is-empty : StartIsEmpty
 start-is-empty s ready config room = record {
   fit = start-fit s config ready room;
+  known = bought-known (s .scheme) (s .satp) (ready .valid);
   settings = start-settings s config ready room;
   none = λ i l. go (entryAt (startOf config s .tlb .entries) i .valid) (start-holds s config ready room (λ e. ⊥) i l);
 }

@@ -6,9 +6,12 @@ use mathlib.Core.List.{List}
 use native.Mathlib.Omega.{arith}
 use Rattle.pte.specs.Entry.{permsOf, ppnOf}
 use Rattle.scheme.specs.Access.{causeOf}
-use Rattle.scheme.specs.Scheme.{widthsOf, validOf}
+use Rattle.scheme.specs.Scheme.{widthsOf, validOf, shiftOf, formatOf}
+use Rattle.scheme.specs.declared.Format.{Format}
+use Rattle.scheme.proofs.Widths.{valid, top-shift}
+use Rattle.scheme.proofs.Levels.{modest}
 use Rattle.scheme.specs.declared.PagingScheme.{PagingScheme}
-use Rattle.walker.specs.Descent.{sv32, ended, descentOf}
+use Rattle.walker.specs.Descent.{ended, descentOf}
 use Rattle.walker.specs.declared.Reason.{Reason}
 use Rattle.walker.specs.declared.Reason.the-variants.{NoRight, Privilege}
 use Rattle.walker.specs.declared.Descent.{Descent}
@@ -23,9 +26,9 @@ use Rattle.walk.specs.declared.Verdict.{Verdict}
 use Rattle.walk.specs.declared.Verdict.the-variants.{Page, Fault}
 use Rattle.walk.proofs.Judged.{leaf-read}
 use Rattle.walks.specs.Plain.{plain, plainVerdict, Bytes}
-use Rattle.walks.proofs.Steady.{plain-plain, ppn-same, Same, seek-same}
+use Rattle.walks.proofs.Steady.{plain-plain, ppn-same, Same, descent-same}
 use Rattle.walks.proofs.Verdicts.{verdict-same}
-use Rattle.walks.proofs.Blocks.{shift-low, descent-high}
+use Rattle.walks.proofs.Blocks.{whole-low, descent-high}
 use Rattle.walks.proofs.Claims.{ours-is-sound, blocks-end-alike}
 use Rattle.access.specs.Translate.{isStore}
 use Rattle.order.specs.Runs.{At, Faults}
@@ -38,10 +41,10 @@ unfoldable pub byteMarks : Access → Verdict → List ℕ → List ℕ
 byteMarks q (Page l) ram = byteMarked (q .kind) (l .at) ram
 byteMarks q (Fault why level) ram = ram
 
-pub marks-byte : (q : Access) (v : Verdict) (ram : List ℕ) → Bytes ram → verdictMarks q v ram ≡ byteMarks q v ram
+pub marks-byte : (f : Format) → 0 < f .bytes → (q : Access) (v : Verdict) (ram : List ℕ) → Bytes ram → verdictMarks f q v ram ≡ byteMarks q v ram
 unfolding verdictMarks byteMarks
-marks-byte q (Page l) ram small = word-byte (q .kind) ram (l .at) small
-marks-byte q (Fault why level) ram small = refl
+marks-byte f some q (Page l) ram small = word-byte (q .kind) ram (l .at) small f some
+marks-byte f some q (Fault why level) ram small = refl
 
 pub marks-comm : (q p : Access) (v w : Verdict) (ram : List ℕ) → byteMarks q v (byteMarks p w ram) ≡ byteMarks p w (byteMarks q v ram)
 unfolding byteMarks
@@ -57,10 +60,10 @@ marks-bytes q (Fault why level) ram small = small
 -- ---- A and D are not looked at
 
 module _ (q : Access) where
-  heard-plain : (v : Verdict) → verdictHeard q v ≡ verdictHeard q (plainVerdict v)
+  heard-plain : (f : Format) (v : Verdict) → verdictHeard f q v ≡ verdictHeard f q (plainVerdict v)
   unfolding verdictHeard plainVerdict
-  heard-plain (Page l) = ap (λ (n : ℕ). At (physicalOf n (l .shift) (q .vaddr))) (ppn-same (l .raw) (plain (l .raw)) (sym (plain-plain (l .raw))) sv32)
-  heard-plain (Fault why level) = refl
+  heard-plain f (Page l) = ap (λ (n : ℕ). At (physicalOf f n (l .shift) (q .vaddr))) (ppn-same (l .raw) (plain (l .raw)) (sym (plain-plain (l .raw))))
+  heard-plain f (Fault why level) = refl
 
   marks-plain : (v : Verdict) (ram : List ℕ) → byteMarks q v ram ≡ byteMarks q (plainVerdict v) ram
   unfolding byteMarks plainVerdict
@@ -68,8 +71,8 @@ module _ (q : Access) where
   marks-plain (Fault why level) ram = refl
 
   module _ (v w : Verdict) (e : plainVerdict v ≡ plainVerdict w) where
-    pub heard-same : verdictHeard q v ≡ verdictHeard q w
-    heard-same = heard-plain v ∙ ap (verdictHeard q) e ∙ sym (heard-plain w)
+    pub heard-same : (f : Format) → verdictHeard f q v ≡ verdictHeard f q w
+    heard-same f = heard-plain f v ∙ ap (verdictHeard f q) e ∙ sym (heard-plain f w)
 
     pub marks-same : (ram : List ℕ) → byteMarks q v ram ≡ byteMarks q w ram
     marks-same ram = marks-plain v ram ∙ ap (λ (x : Verdict). byteMarks q x ram) e ∙ sym (marks-plain w ram)
@@ -78,38 +81,38 @@ module _ (q : Access) where
 
 module _ (s : PagingScheme) (root : ℕ) where
   -- a walk over RAM that differs in marks ends alike
-  pub walk-alike : (ram ram′ : List ℕ) → Same sv32 ram ram′ → (q : Access) → plainVerdict (walkOf s root ram q) ≡ plainVerdict (walkOf s root ram′ q)
+  pub walk-alike : (ram ram′ : List ℕ) → Same (formatOf s) ram ram′ → (q : Access) → plainVerdict (walkOf s root ram q) ≡ plainVerdict (walkOf s root ram′ q)
   unfolding descentOf
   walk-alike ram ram′ same q =
-      verdict-same q _ _ (seek-same sv32 ours-is-sound ram ram′ same (q .vaddr) (s .«offset_bits») (widthsOf s) 0 root)
+      verdict-same q _ _ (descent-same (formatOf s) (ours-is-sound s) ram ram′ same (q .vaddr) (s .«offset_bits») (widthsOf s) root)
 
   -- what a walk writes are the marks of its verdict
-  pub walk-marks : (ram : List ℕ) (q : Access) → Bytes ram → markedBy sv32 (q .kind) ram (walkOf s root ram q) ≡ byteMarks q (walkOf s root ram q) ram
+  pub walk-marks : (ram : List ℕ) (q : Access) → Bytes ram → markedBy (formatOf s) (q .kind) ram (walkOf s root ram q) ≡ byteMarks q (walkOf s root ram q) ram
   unfolding byteMarks
   walk-marks ram q small = go (walkOf s root ram q) refl
     where
-      go : (v : Verdict) → walkOf s root ram q ≡ v → markedBy sv32 (q .kind) ram v ≡ byteMarks q v ram
+      go : (v : Verdict) → walkOf s root ram q ≡ v → markedBy (formatOf s) (q .kind) ram v ≡ byteMarks q v ram
       go (Fault why level) e = refl
       go (Page l) e =
-          ap (markIn sv32 (q .kind) ram (l .at)) (sym (leaf-read q s root ram l e .word))
-          ∙ word-byte (q .kind) ram (l .at) small
+          ap (markIn (formatOf s) (q .kind) ram (l .at)) (sym (leaf-read q s root ram l e .word))
+          ∙ word-byte (q .kind) ram (l .at) small (formatOf s) (modest s .some)
 
 -- ---- the judgement of a leaf
 
 module _ (q : Access) (l : LeafAt) where
-  judged-heard : (x y : Bool) →
-      verdictHeard q (faultIf (not x) NoRight (l .level) (faultIf (not y) Privilege (l .level) (Page l)))
-      ≡ cond (x && y) (At (physicalOf (ppnOf (l .raw)) (l .shift) (q .vaddr))) (Faults (causeOf (q .kind)) (q .vaddr))
+  judged-heard : (f : Format) (x y : Bool) →
+      verdictHeard f q (faultIf (not x) NoRight (l .level) (faultIf (not y) Privilege (l .level) (Page l)))
+      ≡ cond (x && y) (At (physicalOf f (ppnOf (l .raw)) (l .shift) (q .vaddr))) (Faults (causeOf (q .kind)) (q .vaddr))
   unfolding verdictHeard faultIf
-  judged-heard true true = refl
-  judged-heard true false = refl
-  judged-heard false y = refl
+  judged-heard f true true = refl
+  judged-heard f true false = refl
+  judged-heard f false y = refl
 
-  pub leaf-heard : verdictHeard q (leafJudged q l)
+  pub leaf-heard : (f : Format) → verdictHeard f q (leafJudged q l)
       ≡ cond (allows (q .kind) (permsOf (l .raw)) && openTo (q .mode) (permsOf (l .raw)))
-      (At (physicalOf (ppnOf (l .raw)) (l .shift) (q .vaddr))) (Faults (causeOf (q .kind)) (q .vaddr))
+      (At (physicalOf f (ppnOf (l .raw)) (l .shift) (q .vaddr))) (Faults (causeOf (q .kind)) (q .vaddr))
   unfolding leafJudged
-  leaf-heard = judged-heard (allows (q .kind) (permsOf (l .raw))) (openTo (q .mode) (permsOf (l .raw)))
+  leaf-heard f = judged-heard f (allows (q .kind) (permsOf (l .raw))) (openTo (q .mode) (permsOf (l .raw)))
 
   module _ (p : Access) (ram : List ℕ) (h : isStore (q .kind) && not (isStore (p .kind)) ≡ false) where
     judged-rests : (x y : Bool) →
@@ -151,14 +154,15 @@ module _ (s : PagingScheme) (root : ℕ) (ram : List ℕ) (p : Access) (l : Leaf
 
   pub offset-below : s .«offset_bits» ≤ l .shift
   unfolding descentOf
-  offset-below = subst (λ (n : ℕ). s .«offset_bits» ≤ n) shift-is (shift-low sv32 ram (s .«offset_bits») (p .vaddr) (widthsOf s) 0 root)
+  offset-below = subst (λ (n : ℕ). s .«offset_bits» ≤ n) shift-is (whole-low (formatOf s) ram (s .«offset_bits») (widthsOf s) root (p .vaddr))
 
   pub shift-within : validOf s ≡ true → l .shift < 32
   shift-within ok = subst (λ (n : ℕ). n < 32) shift-is (descent-high ram root s (p .vaddr) ok)
 
   -- an access to an address of the page is judged by the same leaf
-  pub same-leaf : (q : Access) → q .vaddr / 2 ^ l .shift ≡ p .vaddr / 2 ^ l .shift → walkOf s root ram q ≡ leafJudged q l
+  pub same-leaf : validOf s ≡ true → (q : Access) → q .vaddr / 2 ^ l .shift ≡ p .vaddr / 2 ^ l .shift → walkOf s root ram q ≡ leafJudged q l
   unfolding descentOf judgeOf
-  same-leaf q h =
+  same-leaf ok q h =
       let k = rw (← shift-is) at h in
-      ap (judgeOf q) (blocks-end-alike sv32 (s .«offset_bits») (widthsOf s) root ram (p .vaddr) (q .vaddr) k ∙ down)
+      let fits : shiftOf (s .«offset_bits») (widthsOf s) 0 ≤ formatOf s .top = omega (arith, top-shift s (valid s ok), modest s .tall) in
+      ap (judgeOf q) (blocks-end-alike (formatOf s) (s .«offset_bits») (widthsOf s) root ram (p .vaddr) (q .vaddr) fits k ∙ down)

@@ -7,9 +7,8 @@ use mathlib.Core.List.{List}
 use native.Mathlib.Omega.{arith}
 use Rattle.pte.specs.Entry.{ppnOf}
 use Rattle.scheme.specs.Satp.{asidOf}
-use Rattle.scheme.specs.Scheme.{validOf}
+use Rattle.scheme.specs.Scheme.{validOf, formatOf}
 use Rattle.bits.proofs.Bools.{and-left, and-right}
-use Rattle.walker.specs.Descent.{sv32}
 use Rattle.walker.specs.declared.Reason.{Reason}
 use Rattle.walk.specs.Answer.{markedBy, physicalOf, wordsOf}
 use Rattle.walk.specs.declared.Access.{Access}
@@ -30,7 +29,7 @@ use Rattle.caches.proofs.Claims.{probe-fits, probe-same, probe-finds, probe-hol
 use Rattle.state.specs.State.{withTlb, schemeHeld, fitOf}
 use Rattle.access.specs.Translate.{bypassed, tallied, vpnOf, mustWalk, decides, consultOf, okAt, faultOf, passedOf, entryPermits, foundServed}
 use Rattle.access.specs.Translate.{madeOf, walkServed, missWalk, lookServed, lookRam, servedOf, servedRam}
-use Rattle.mmu.specs.Calls.{translateOf, translateRam}
+use Rattle.mmu.specs.Calls.{modeKnown, translateOf, translateRam}
 use Rattle.state.specs.declared.Mmu.{Mmu}
 use Rattle.access.specs.declared.Consulted.{Consulted}
 use Rattle.access.specs.declared.Served.{Served}
@@ -58,7 +57,7 @@ pub record Consults (m : Mmu) (q : Access) (t : Tlb) (k : Lookup) : Type 1 where
   pub evictions : t .stats .evictions ≡ m .tlb .stats .evictions
   pub fits : tlbFits t ≡ true
   pub keeps : (P : Said → Type 0) → Holds P (m .tlb) → Holds P t
-  pub found : (e : TlbEntry) → k ≡ Found e → EntryOf (m .tlb) (vpnOf m q) (asidOf (m .satp .raw)) e × (mustWalk e q ≡ false)
+  pub found : (e : TlbEntry) → k ≡ Found e → EntryOf (m .tlb) (vpnOf m q) (asidOf (m .scheme) (m .satp .raw)) e × (mustWalk e q ≡ false)
 
 -- an entry that decides was found, and need not walk
 decided : (q : Access) (k : Lookup) (e : TlbEntry) → decides q k ≡ Found e → (k ≡ Found e) × (mustWalk e q ≡ false)
@@ -81,7 +80,7 @@ probe-evicts t vpn asid = slot-evicts (findFrom (shapeOf t) (shapeOf t .classes)
 
 module _ (m : Mmu) (q : Access) (fit : fitOf m ≡ true) where
   abbrev asid : ℕ
-  asid = asidOf (m .satp .raw)
+  asid = asidOf (m .scheme) (m .satp .raw)
 
   probed : Consults m q (tlbProbe (m .tlb) (vpnOf m q) asid .tlb) (decides q (tlbProbe (m .tlb) (vpnOf m q) asid .lookup))
   probed = record {
@@ -133,7 +132,7 @@ filled m q l t = cond (m .«tlb_enabled») (tlbInstall (tallied 0 1 0 t) (madeOf
 module _ (m : Mmu) (q : Access) (t : Tlb) where
   abbrev pub hit : TlbEntry → Served
   hit e = record {
-    said = okAt 0 (physicalOf (e .ppn) (m .scheme .«offset_bits» + e .«mask_bits») (q .vaddr)) (t .config .«hit_latency»);
+    said = okAt 0 (physicalOf (formatOf (m .scheme)) (e .ppn) (m .scheme .«offset_bits» + e .«mask_bits») (q .vaddr)) (t .config .«hit_latency»);
     mmu = countedIn m 1 0 0 t;
   }
 
@@ -142,12 +141,12 @@ module _ (m : Mmu) (q : Access) (t : Tlb) where
 
   abbrev pub led : LeafAt → Served
   led l = record {
-    said = okAt (wordsOf (Page l)) (physicalOf (ppnOf (l .raw)) (l .shift) (q .vaddr)) (t .config .«miss_penalty»);
+    said = okAt (wordsOf (formatOf (m .scheme)) (q .vaddr) (Page l)) (physicalOf (formatOf (m .scheme)) (ppnOf (l .raw)) (l .shift) (q .vaddr)) (t .config .«miss_penalty»);
     mmu = withTlb m (filled m q l t);
   }
 
   abbrev pub stopped : Reason → ℕ → Served
-  stopped why level = record { said = faultOf (wordsOf (Fault why level)) q; mmu = countedIn m 0 1 1 t }
+  stopped why level = record { said = faultOf (wordsOf (formatOf (m .scheme)) (q .vaddr) (Fault why level)) q; mmu = countedIn m 0 1 1 t }
 
 pub data Case (m : Mmu) (q : Access) (ram : List ℕ) : Served → List ℕ → Type 1 where
   Passes : bypassed m q ≡ true → Case m q ram (passedOf m q) ram
@@ -160,7 +159,7 @@ pub data Case (m : Mmu) (q : Access) (ram : List ℕ) : Served → List ℕ → 
   -- no entry decides it, and the walk comes to a leaf or faults
   Leads : bypassed m q ≡ false → (t : Tlb) → consultOf m q ≡ record { lookup = Absent; mmu = withTlb m t } → Consults m q t Absent
       → (l : LeafAt) → missWalk m q ram ≡ Page l
-      → Case m q ram (led m q t l) (markedBy sv32 (q .kind) ram (Page l))
+      → Case m q ram (led m q t l) (markedBy (formatOf (m .scheme)) (q .kind) ram (Page l))
   Ends : bypassed m q ≡ false → (t : Tlb) → consultOf m q ≡ record { lookup = Absent; mmu = withTlb m t } → Consults m q t Absent
       → (why : Reason) (level : ℕ) → missWalk m q ram ≡ Fault why level
       → Case m q ram (stopped m q t why level) ram
@@ -177,7 +176,7 @@ module _ (m : Mmu) (q : Access) (ram : List ℕ) (fit : fitOf m ≡ true) where
         go false p = Forbids on t e h c p
 
     walked : (t : Tlb) → consultOf m q ≡ record { lookup = Absent; mmu = withTlb m t } → Consults m q t Absent
-        → (v : Verdict) → missWalk m q ram ≡ v → Case m q ram (walkServed (withTlb m t) q v) (markedBy sv32 (q .kind) ram v)
+        → (v : Verdict) → missWalk m q ram ≡ v → Case m q ram (walkServed (withTlb m t) q v) (markedBy (formatOf (m .scheme)) (q .kind) ram v)
     unfolding walkServed madeOf
     walked t h c (Page l) e = Leads on t h c l e
     walked t h c (Fault why level) e = Ends on t h c why level e
@@ -203,6 +202,6 @@ module _ (m : Mmu) (q : Access) (ram : List ℕ) (fit : fitOf m ≡ true) where
   served true h = rw h (Passes h)
   served false h = rw h (looked h (m .«tlb_enabled») refl)
 
-  pub translate-case : Case m q ram (translateOf m q ram) (translateRam m q ram)
+  pub translate-case : modeKnown (m .scheme) (m .satp .raw) ≡ true → Case m q ram (translateOf m q ram) (translateRam m q ram)
   unfolding translateOf translateRam
-  translate-case = rw fit (served (bypassed m q) refl)
+  translate-case known = rw (fit, known) (served (bypassed m q) refl)

@@ -10,12 +10,11 @@ use lib.Seq.{length-take-le, take-at}
 use borrow.Author.Tests.{leb-true, eqb-true, eq-eqb}
 use Rattle.scheme.specs.Refusals.{onGrant}
 use Rattle.scheme.specs.Satp.{asidOf}
-use Rattle.scheme.specs.Scheme.{total, okWidths, validOf, widthsOf, classes, padded, leafMasks}
+use Rattle.scheme.specs.Scheme.{total, okWidths, validOf, widthsOf, classes, padded, leafMasks, formatOf, isSv39, addressBits}
 use Rattle.scheme.specs.declared.PagingScheme.{PagingScheme}
 use Rattle.bits.proofs.Bools.{and-right}
-use Rattle.scheme.proofs.Widths.{valid}
+use Rattle.scheme.proofs.Widths.{valid, bought}
 use Rattle.scheme.proofs.Classes.{length-classes}
-use Rattle.walker.specs.Descent.{sv32}
 use Rattle.walk.specs.Answer.{markedBy}
 use Rattle.walk.specs.declared.Access.{Access}
 use Rattle.walk.specs.declared.LeafAt.{LeafAt}
@@ -30,7 +29,7 @@ use Rattle.caches.specs.Terms.{Said, saidBy, Holds, EntryOf}
 use Rattle.caches.proofs.Claims.{new-fits, scheme-fits, new-holds, scheme-holds, install-holds, flush-holds, flush-vaddr-holds}
 use Rattle.state.specs.State.{withTlb, stateNew, withScheme, alike, fitOf}
 use Rattle.access.specs.Translate.{tallied, vpnOf, madeOf}
-use Rattle.mmu.specs.Calls.{roomFor, newOf, setSchemeOf, flushOf, flushVaddrOf, translateOf, translateRam}
+use Rattle.mmu.specs.Calls.{modeKnown, roomFor, newOf, setSchemeOf, flushOf, flushVaddrOf, translateOf, translateRam}
 use Rattle.state.specs.declared.Mmu.{Mmu}
 use Rattle.access.specs.declared.Served.{Served}
 use Rattle.session.specs.Session.{switched, settingsSaid, startOf}
@@ -64,7 +63,7 @@ alike-self (x ∷ xs) = rw (eq-eqb x x refl) (alike-self xs)
 
 -- a new state is fit, if its entries have room
 pub new-fit : (config : TlbConfig) → roomFor config ≡ true → fitOf (stateNew config) ≡ true
-unfolding fitOf stateNew tlbNew leafMasks validOf okWidths total classes alike
+unfolding fitOf stateNew tlbNew leafMasks validOf okWidths total classes alike isSv39 addressBits
 new-fit config room = rw (new-fits config (leb-true _ 128 room))
 
 -- and a fit state stays so under another scheme
@@ -87,7 +86,7 @@ module _ (s : Settings) (config : TlbConfig) (r : Ready s) (room : roomFor confi
   -- nothing of the set-up is refused
   start-is : startOf config s ≡ switched (withScheme (stateNew config) (s .scheme)) s
   unfolding startOf settingsSaid onGrant newOf setSchemeOf
-  start-is = rw (room, new-fit config room, r .valid)
+  start-is = rw (room, new-fit config room, r .valid, bought (s .scheme) (r .valid))
 
   pub start-settings : settingsOf (startOf config s) ≡ s
   unfolding withScheme
@@ -99,13 +98,13 @@ module _ (s : Settings) (config : TlbConfig) (r : Ready s) (room : roomFor confi
 
   pub start-fit : fitOf (startOf config s) ≡ true
   unfolding fitOf stateNew
-  start-fit = rw start-is (adopted-fit (stateNew config) (s .scheme) (r .valid) (r .four) (new-fits config (leb-true _ 128 room)))
+  start-fit = rw start-is (adopted-fit (stateNew config) (s .scheme) (bought (s .scheme) (r .valid)) (r .four) (new-fits config (leb-true _ 128 room)))
 
 -- ---- an access
 
 module _ (m : Mmu) (q : Access) (ram : List ℕ) where
   module _ (t : Tlb) (e : TlbEntry) (c : Consults m q t (Found e)) where
-    entry : EntryOf (m .tlb) (vpnOf m q) (asidOf (m .satp .raw)) e
+    entry : EntryOf (m .tlb) (vpnOf m q) (asidOf (m .scheme) (m .satp .raw)) e
     entry = c .found e refl .0
 
     entry-holds : (P : Said → Type 0) → HoldsIn P m → P (saidBy e)
@@ -114,7 +113,7 @@ module _ (m : Mmu) (q : Access) (ram : List ℕ) where
     entry-decides : Decides (settingsOf m) (saidBy e) q
     unfolding matchesOf
     entry-decides = record {
-      page = eqb-true _ _ (and-right (e .valid && (e .global || eqb (e .asid) (asidOf (m .satp .raw)))) _ (entry .same));
+      page = eqb-true _ _ (and-right (e .valid && (e .global || eqb (e .asid) (asidOf (m .scheme) (m .satp .raw)))) _ (entry .same));
       ready = c .found e refl .1;
     }
 
@@ -135,17 +134,17 @@ module _ (m : Mmu) (q : Access) (ram : List ℕ) where
   case-steps v ram′ (Leads h t k c l e) =
       machine.Walks h
       (subst (λ (x : Verdict). Left (settingsOf m) HoldsIn q x m (withTlb m (filled m q l t))) (sym e) (λ P p w. filled-holds P l t p (c .keeps P w)))
-      (ap (markedBy sv32 (q .kind) ram) (sym e))
-      (ap (verdictHeard q) (sym e))
+      (ap (markedBy (formatOf (m .scheme)) (q .kind) ram) (sym e))
+      (ap (verdictHeard (formatOf (m .scheme)) q) (sym e))
   case-steps v ram′ (Ends h t k c why level e) =
       machine.Walks h
       (subst (λ (x : Verdict). Left (settingsOf m) HoldsIn q x m (countedIn m 0 1 1 t)) (sym e) (λ P w. holds-tallied P 0 1 1 t (c .keeps P w)))
-      (ap (markedBy sv32 (q .kind) ram) (sym e))
-      (ap (verdictHeard q) (sym e))
+      (ap (markedBy (formatOf (m .scheme)) (q .kind) ram) (sym e))
+      (ap (verdictHeard (formatOf (m .scheme)) q) (sym e))
 
-  pub translate-steps : fitOf m ≡ true
+  pub translate-steps : fitOf m ≡ true → modeKnown (m .scheme) (m .satp .raw) ≡ true
       → Step (settingsOf m) HoldsIn q m ram (translateOf m q ram .mmu) (translateRam m q ram) (heardOf (translateOf m q ram .said .outcome))
-  translate-steps fit = case-steps _ _ (translate-case m q ram fit)
+  translate-steps fit known = case-steps _ _ (translate-case m q ram fit known)
 
 -- ---- a flush
 

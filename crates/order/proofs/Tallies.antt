@@ -30,7 +30,8 @@ use Rattle.session.specs.declared.Event.the-variants.{Translate, Flush, FlushAt
 use Rattle.order.specs.Tallies.{countOf, translated, permits, foundHit, forbids, foundFault, isAbsent, walks, isFault, walkFault, isNothing, takesVictim, leafVictim, evicts}
 use Rattle.order.specs.Claims.{Wraps, TalliesAddUp}
 use Rattle.order.proofs.Serves.{Consults, filled, Case, Passes, Hits, Forbids, Leads, Ends, translate-case}
-use Rattle.order.proofs.Fit.{flushed, flushed-at, event-fit}
+use Rattle.order.proofs.Fit.{flushed, flushed-at, event-fit, event-known}
+use Rattle.mmu.specs.Calls.{modeKnown}
 
 -- ---- sums that wrap
 
@@ -234,9 +235,9 @@ record Sums (st : TlbStats) (es : List Event) (m : Mmu) (ram : List ℕ) : Type 
   faults : Wraps (endMmu es m ram .tlb .stats .«page_faults») (st .«page_faults» + countOf foundFault es m ram + countOf walkFault es m ram)
   evictions : Wraps (endMmu es m ram .tlb .stats .evictions) (st .evictions + countOf evicts es m ram)
 
-sums : (es : List Event) (m : Mmu) (ram : List ℕ) → fitOf m ≡ true → Sums (m .tlb .stats) es m ram
+sums : (es : List Event) (m : Mmu) (ram : List ℕ) → fitOf m ≡ true → modeKnown (m .scheme) (m .satp .raw) ≡ true → Sums (m .tlb .stats) es m ram
 unfolding endMmu countOf
-sums [] m ram fit =
+sums [] m ram fit known =
     let st = m .tlb .stats in
     record {
       hits = wraps-none (st .hits);
@@ -245,14 +246,14 @@ sums [] m ram fit =
       faults = wraps-is (st .«page_faults») (st .«page_faults» + 0 + 0) (omega arith);
       evictions = wraps-none (st .evictions);
     }
-sums (Translate q ∷ es) m ram fit =
+sums (Translate q ∷ es) m ram fit known =
     let m′ = stepMmu (Translate q) m ram in
     let ram′ = stepRam (Translate q) m ram in
     let st = m .tlb .stats in
     let st′ = m′ .tlb .stats in
     let end = endMmu es m′ ram′ .tlb .stats in
-    let a = case-adds m q ram fit _ _ (translate-case m q ram fit) in
-    let r = sums es m′ ram′ (event-fit m fit ram (Translate q)) in
+    let a = case-adds m q ram fit _ _ (translate-case m q ram fit known) in
+    let r = sums es m′ ram′ (event-fit m fit known ram (Translate q)) (event-known m fit known ram (Translate q)) in
     record {
       hits = then-counts (end .hits) (st′ .hits) _ (st .hits) _ (r .hits) (a .hits);
       misses = then-counts (end .misses) (st′ .misses) _ (st .misses) _ (r .misses) (a .misses);
@@ -260,18 +261,18 @@ sums (Translate q ∷ es) m ram fit =
       faults = then-faults (end .«page_faults») (st′ .«page_faults») _ _ (st .«page_faults») _ _ (r .faults) (a .faults);
       evictions = then-counts (end .evictions) (st′ .evictions) _ (st .evictions) _ (r .evictions) (a .evictions);
     }
-sums (Flush ∷ es) m ram fit =
+sums (Flush ∷ es) m ram fit known =
     let m′ = stepMmu Flush m ram in
     let same : m′ .tlb .stats ≡ m .tlb .stats = ap (λ (x : Mmu). x .tlb .stats) (flushed m fit) ∙ flush-stats (m .tlb) in
-    let r = subst (λ (st : TlbStats). Sums st es m′ (stepRam Flush m ram)) same (sums es m′ _ (event-fit m fit ram Flush)) in
+    let r = subst (λ (st : TlbStats). Sums st es m′ (stepRam Flush m ram)) same (sums es m′ _ (event-fit m fit known ram Flush) (event-known m fit known ram Flush)) in
     record { hits = r .hits; misses = r .misses; accesses = r .accesses; faults = r .faults; evictions = r .evictions }
-sums (FlushAt va ∷ es) m ram fit =
+sums (FlushAt va ∷ es) m ram fit known =
     let m′ = stepMmu (FlushAt va) m ram in
     let same : m′ .tlb .stats ≡ m .tlb .stats = ap (λ (x : Mmu). x .tlb .stats) (flushed-at m fit va) ∙ flush-at-stats (m .tlb) va in
-    let r = subst (λ (st : TlbStats). Sums st es m′ (stepRam (FlushAt va) m ram)) same (sums es m′ _ (event-fit m fit ram (FlushAt va))) in
+    let r = subst (λ (st : TlbStats). Sums st es m′ (stepRam (FlushAt va) m ram)) same (sums es m′ _ (event-fit m fit known ram (FlushAt va)) (event-known m fit known ram (FlushAt va))) in
     record { hits = r .hits; misses = r .misses; accesses = r .accesses; faults = r .faults; evictions = r .evictions }
 
 pub add-up : TalliesAddUp
-add-up es m ram fit =
-    let r = sums es m ram fit in
+add-up es m ram fit known =
+    let r = sums es m ram fit known in
     record { hits = r .hits; misses = r .misses; accesses = r .accesses; faults = r .faults; evictions = r .evictions }

@@ -9,8 +9,9 @@ use lib.Pow.{shr-shr, shl-shr}
 use Rattle.pte.specs.Entry.{permsOf, ppnOf}
 use Rattle.scheme.specs.Access.{causeOf}
 use Rattle.scheme.specs.Satp.{rootOf}
-use Rattle.scheme.specs.Scheme.{widthsOf}
-use Rattle.walker.specs.Descent.{sv32, descentOf}
+use Rattle.scheme.specs.Scheme.{widthsOf, validOf, formatOf}
+use Rattle.scheme.specs.declared.Format.{Format}
+use Rattle.walker.specs.Descent.{descentOf}
 use Rattle.walk.specs.Rights.{allows, openTo}
 use Rattle.walk.specs.Verdict.{leafJudged}
 use Rattle.walk.specs.Answer.{markedBy, physicalOf}
@@ -29,8 +30,8 @@ use Rattle.order.specs.Plain.{passes, plainWalk, verdictHeard, plainAnsw
 use Rattle.order.proofs.Machine.{pageOf, madeBy, toldBy, Decides, Keeps, Left, Step, Passes, Finds, Walks}
 use Rattle.order.proofs.Pages.{byteMarks, marks-comm, marks-bytes, heard-same, marks-same, walk-alike, walk-marks, leaf-heard, leaf-rests, offset-below, same-leaf}
 
-same-trans : (a b c : List ℕ) → Same sv32 a b → Same sv32 b c → Same sv32 a c
-same-trans a b c p q = record { long = p .long ∙ q .long; words = λ x d. p .words x d ∙ q .words x d }
+same-trans : (f : Format) (a b c : List ℕ) → Same f a b → Same f b c → Same f a c
+same-trans f a b c p q = record { long = p .long ∙ q .long; words = λ x d. p .words x d ∙ q .words x d }
 
 module _ (s : Settings) (start : List ℕ) where
   -- the marks that an access earns, on a byte
@@ -46,7 +47,7 @@ module _ (s : Settings) (start : List ℕ) where
     unfolding byteEarned
     passes-earns ram h = rw h
 
-    walks-plain : passes s q ≡ false → plainAnswer s start q ≡ verdictHeard q (plainWalk s start q)
+    walks-plain : passes s q ≡ false → plainAnswer s start q ≡ verdictHeard (formatOf (s .scheme)) q (plainWalk s start q)
     unfolding plainAnswer
     walks-plain h = rw h
 
@@ -89,11 +90,12 @@ module _ (s : Settings) (start : List ℕ) where
   -- what holds of RAM between accesses: bytes, which differ from those at the start in marks alone
   pub record Steady (ram : List ℕ) : Type 0 where
     pub bytes : Bytes ram
-    pub same : Same sv32 start ram
+    pub same : Same (formatOf (s .scheme)) start ram
+    pub valid : validOf (s .scheme) ≡ true
 
   module _ (ram : List ℕ) (S : Steady ram) where
     abbrev root : ℕ
-    root = rootOf (s .satp)
+    root = rootOf (s .scheme) (s .satp)
 
     alike : (q : Access) → plainVerdict (plainWalk s start q) ≡ plainVerdict (plainWalk s ram q)
     alike q = walk-alike (s .scheme) root start ram (S .same) q
@@ -106,11 +108,11 @@ module _ (s : Settings) (start : List ℕ) where
         let low = offset-below (s .scheme) root ram p l met in
         let whole : l .shift ≡ o + (l .shift - o) = omega arith in
         let same : plainWalk s ram q ≡ leafJudged q l =
-        same-leaf (s .scheme) root ram p l met q (made-page q p (l .shift - o) (l .shift) whole (d .page)) in (
+        same-leaf (s .scheme) root ram p l met (S .valid) q (made-page q p (l .shift - o) (l .shift) whole (d .page)) in (
           walks-plain q on
-              ∙ heard-same q _ _ (alike q)
-              ∙ ap (verdictHeard q) same
-              ∙ leaf-heard q l
+              ∙ heard-same q _ _ (alike q) (formatOf (s .scheme))
+              ∙ ap (verdictHeard (formatOf (s .scheme)) q) same
+              ∙ leaf-heard q l (formatOf (s .scheme))
               ∙ ap (λ (n : ℕ). toldAt q n) whole,
           walks-earns q (byteMarks p (Page l) ram) on
               ∙ marks-same q _ _ (alike q) (byteMarks p (Page l) ram)
@@ -122,18 +124,19 @@ module _ (s : Settings) (start : List ℕ) where
         toldAt : Access → ℕ → Heard
         toldAt q n =
             cond (allows (q .kind) (permsOf (l .raw)) && openTo (q .mode) (permsOf (l .raw)))
-            (At (physicalOf (ppnOf (l .raw)) n (q .vaddr))) (Faults (causeOf (q .kind)) (q .vaddr))
+            (At (physicalOf (formatOf (s .scheme)) (ppnOf (l .raw)) n (q .vaddr))) (Faults (causeOf (q .kind)) (q .vaddr))
 
     -- what a walk leaves in RAM
-    walked-is : (p : Access) → markedBy sv32 (p .kind) ram (plainWalk s ram p) ≡ byteMarks p (plainWalk s ram p) ram
+    walked-is : (p : Access) → markedBy (formatOf (s .scheme)) (p .kind) ram (plainWalk s ram p) ≡ byteMarks p (plainWalk s ram p) ram
     walked-is p = walk-marks (s .scheme) root ram p (S .bytes)
 
     steady-walk : (p : Access) → Steady (byteMarks p (plainWalk s ram p) ram)
     unfolding descentOf
     steady-walk p = record {
       bytes = marks-bytes p (plainWalk s ram p) ram (S .bytes);
-      same = same-trans start ram _ (S .same)
-          (rw (walked-is p) at (walk-same sv32 ours-is-sound ram (S .bytes) p (s .scheme .«offset_bits») (widthsOf (s .scheme)) root));
+      valid = S .valid;
+      same = same-trans (formatOf (s .scheme)) start ram _ (S .same)
+          (rw (walked-is p) at (walk-same (formatOf (s .scheme)) (ours-is-sound (s .scheme)) ram (S .bytes) p (s .scheme .«offset_bits») (widthsOf (s .scheme)) root));
     }
 
   -- ---- one step, of any machine whose valid entries `Holds` speaks of
@@ -162,9 +165,9 @@ module _ (s : Settings) (start : List ℕ) where
       }
 
       walks-right : passes s q ≡ false → Left s Holds q (plainWalk s ram q) t t′
-          → Right q ram t′ (byteMarks q (plainWalk s ram q) ram) (verdictHeard q (plainWalk s ram q))
+          → Right q ram t′ (byteMarks q (plainWalk s ram q) ram) (verdictHeard (formatOf (s .scheme)) q (plainWalk s ram q))
       walks-right on k = record {
-        answer = heard-same q _ _ (sym (alike ram (S .steady) q)) ∙ sym (walks-plain q on);
+        answer = heard-same q _ _ (sym (alike ram (S .steady) q)) (formatOf (s .scheme)) ∙ sym (walks-plain q on);
         marks = marks-same q _ _ (sym (alike ram (S .steady) q)) ram ∙ sym (walks-earns q ram on);
         sound = record { steady = steady-walk ram (S .steady) q; truth = keeps (plainWalk s ram q) refl k };
       }

@@ -10,14 +10,14 @@ use mathlib.Core.List.{List, [], map, Perm}
 use lib.ListN.{length, getD}
 use Rattle.bits.specs.Bits.{bit}
 use Rattle.pte.specs.Entry.{aPlace, dPlace}
-use Rattle.scheme.specs.Scheme.{validOf}
+use Rattle.scheme.specs.Scheme.{boughtOf}
 use Rattle.scheme.specs.declared.PagingScheme.{PagingScheme}
 use Rattle.walk.specs.declared.Access.{Access}
 use Rattle.walks.specs.Plain.{plain, Bytes}
 use Rattle.entry.specs.declared.TlbConfig.{TlbConfig}
 use Rattle.slots.specs.Slots.{entryAt}
 use Rattle.state.specs.State.{fitOf}
-use Rattle.mmu.specs.Calls.{roomFor, newOf, setSchemeOf, reconfigureOf}
+use Rattle.mmu.specs.Calls.{modeKnown, roomFor, newOf, setSchemeOf, reconfigureOf}
 use Rattle.state.specs.declared.Mmu.{Mmu}
 use Rattle.session.specs.Session.{startOf, endMmu, endRam}
 use Rattle.session.specs.declared.Settings.{Settings}
@@ -29,6 +29,7 @@ use Rattle.order.specs.Tallies.{countOf, translated, foundHit, walks, fo
 -- "an empty cache of its own size and policy, scheme, satp and switches": a fit state with the settings s and no valid entry
 pub record Empty (s : Settings) (m : Mmu) : Type 0 where
   pub fit : fitOf m ≡ true
+  pub known : modeKnown (s .scheme) (s .satp) ≡ true
   pub settings : settingsOf m ≡ s
   pub none : (i : ℕ) → i < m .tlb .count → entryAt (m .tlb .entries) i .valid ≡ false
 
@@ -46,9 +47,9 @@ AnyOrder =
     → (es fs : List Event) → Perm (accesses es) (accesses fs)
     → PlainRun s start one es (accesses es) × PlainRun s start two fs (accesses es)
 
--- what the settings have to be: a valid scheme, whose widths are an array of four
+-- what the settings have to be: a scheme of document 01, whose widths are an array of four
 pub record Ready (s : Settings) : Type 0 where
-  pub valid : validOf (s .scheme) ≡ true
+  pub valid : boughtOf (s .scheme) ≡ true
   pub four : length (s .scheme .«level_bits») ≡ 4
 
 -- the state that `set_up` starts from is such a one
@@ -78,7 +79,7 @@ pub record CallsFit : Type 0 where
 -- a run that starts on a fit state is never refused and ends fit
 abbrev pub NeverRefused : Type 0
 NeverRefused =
-    (es : List Event) (m : Mmu) (ram : List ℕ) → fitOf m ≡ true
+    (es : List Event) (m : Mmu) (ram : List ℕ) → fitOf m ≡ true → modeKnown (m .scheme) (m .satp .raw) ≡ true
     → (refusals es m ram ≡ []) × (fitOf (endMmu es m ram) ≡ true)
 
 -- "Tallies wrap at 2^64"
@@ -109,4 +110,4 @@ pub record Tallied (es : List Event) (m : Mmu) (ram : List ℕ) : Type 0 where
       (m .tlb .stats .evictions + countOf evicts es m ram)
 
 abbrev pub TalliesAddUp : Type 0
-TalliesAddUp = (es : List Event) (m : Mmu) (ram : List ℕ) → fitOf m ≡ true → Tallied es m ram
+TalliesAddUp = (es : List Event) (m : Mmu) (ram : List ℕ) → fitOf m ≡ true → modeKnown (m .scheme) (m .satp .raw) ≡ true → Tallied es m ram

@@ -7,7 +7,8 @@ use Rattle.memory.specs.Word.{leAt}
 use Rattle.pte.specs.Entry.{ppnOf}
 use Rattle.scheme.specs.Access.{causeOf}
 use Rattle.scheme.specs.Satp.{rootOf}
-use Rattle.walker.specs.Descent.{sv32}
+use Rattle.scheme.specs.Scheme.{formatOf}
+use Rattle.scheme.specs.declared.Format.{Format}
 use Rattle.walk.specs.Answer.{markIn, physicalOf}
 use Rattle.walk.specs.Verdict.{walkOf}
 use Rattle.walk.specs.declared.Access.{Access}
@@ -19,31 +20,31 @@ use Rattle.order.specs.Runs.{Heard, At, Faults}
 
 -- "not enabled, or Bare, or machine mode without `force_translate`"
 abbrev pub passes : Settings → Access → Bool
-passes s q = passesWith (s .enabled) (s .force) (s .satp) (q .mode)
+passes s q = passesWith (s .scheme) (s .enabled) (s .force) (s .satp) (q .mode)
 
 abbrev pub plainWalk : Settings → List ℕ → Access → Verdict
-plainWalk s ram q = walkOf (s .scheme) (rootOf (s .satp)) ram q
+plainWalk s ram q = walkOf (s .scheme) (rootOf (s .scheme) (s .satp)) ram q
 
 -- ---- the answer
 
-unfoldable pub verdictHeard : Access → Verdict → Heard
-verdictHeard q (Page l) = At (physicalOf (ppnOf (l .raw)) (l .shift) (q .vaddr))
-verdictHeard q (Fault why level) = Faults (causeOf (q .kind)) (q .vaddr)
+unfoldable pub verdictHeard : Format → Access → Verdict → Heard
+verdictHeard f q (Page l) = At (physicalOf f (ppnOf (l .raw)) (l .shift) (q .vaddr))
+verdictHeard f q (Fault why level) = Faults (causeOf (q .kind)) (q .vaddr)
 
 -- "its own address where bypassed, else the address or fault of a plain walk over the starting RAM"
 unfoldable pub plainAnswer : Settings → List ℕ → Access → Heard
-plainAnswer s start q = cond (passes s q) (At (q .vaddr)) (verdictHeard q (plainWalk s start q))
+plainAnswer s start q = cond (passes s q) (At (q .vaddr)) (verdictHeard (formatOf (s .scheme)) q (plainWalk s start q))
 
 -- ---- the marks
 
 -- the word that now stands at an accepted leaf's place "gets bit 6, and for a store bit 7"
-unfoldable pub verdictMarks : Access → Verdict → List ℕ → List ℕ
-verdictMarks q (Page l) ram = markIn sv32 (q .kind) ram (l .at) (leAt 4 ram (l .at))
-verdictMarks q (Fault why level) ram = ram
+unfoldable pub verdictMarks : Format → Access → Verdict → List ℕ → List ℕ
+verdictMarks f q (Page l) ram = markIn f (q .kind) ram (l .at) (leAt (f .bytes) ram (l .at))
+verdictMarks f q (Fault why level) ram = ram
 
 -- the marks that an access earns: none where bypassed, else those of its plain walk over the starting RAM
 unfoldable pub earned : Settings → List ℕ → Access → List ℕ → List ℕ
-earned s start q ram = cond (passes s q) ram (verdictMarks q (plainWalk s start q) ram)
+earned s start q ram = cond (passes s q) ram (verdictMarks (formatOf (s .scheme)) q (plainWalk s start q) ram)
 
 -- "the starting bytes plus the marks those accesses earn": the marks of a list, made in a RAM
 unfoldable pub allMarks : Settings → List ℕ → List Access → List ℕ → List ℕ

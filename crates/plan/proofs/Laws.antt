@@ -14,7 +14,7 @@ use lib.Seq.{drop-cons, length-take-le}
 use borrow.Author.Tests.{lt-ltb, le-ltb, ltb-true, ltb-false}
 use Rattle.scheme.specs.declared.PagingScheme.{PagingScheme}
 use Rattle.scheme.specs.Scheme.{total, okWidths, widthsOf}
-use Rattle.scheme.proofs.Widths.{Valid, valid, ok-at, ok-rest}
+use Rattle.scheme.proofs.Widths.{bought, all-32, Valid, valid, ok-at, ok-rest}
 use Rattle.plan.specs.declared.MapRule.{MapRule}
 use Rattle.plan.specs.declared.MapRule.the-variants.{Relative, Absolute}
 use Rattle.plan.specs.declared.Plan.{Plan}
@@ -38,7 +38,7 @@ total-cons w ws = refl
 
 module _ (s : PagingScheme) (f : Fit s) where
   pub is-valid : Valid s
-  is-valid = valid s (f .valid)
+  is-valid = valid s (bought s (f .valid))
 
   pub used-length : length (widthsOf s) ≡ s .levels
   used-length = length-take-le (s .levels) (s .«level_bits») (omega (arith, f .array, is-valid .four))
@@ -60,7 +60,7 @@ module _ (s : PagingScheme) (f : Fit s) where
   width-bounds l h = ok-at (widthsOf s) l (is-valid .ok) (omega (arith, used-length))
 
   pub bits-from : (l : ℕ) → s .«offset_bits» + total (from s l) ≤ 32
-  bits-from l = omega (arith, total-drop l (widthsOf s), is-valid .all-32)
+  bits-from l = omega (arith, total-drop l (widthsOf s), all-32 s (f .valid))
 
   -- one width more
   step-total : (l : ℕ) → l < s .levels → total (from s l) ≡ widthAt s l + total (from s (l + 1))

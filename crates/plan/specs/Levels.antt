@@ -4,7 +4,7 @@ use mathlib.Core.Path.{_≡_}
 use mathlib.Core.Bool.{Bool, true}
 use mathlib.Core.List.{List}
 use lib.ListN.{length, getD, drop}
-use Rattle.scheme.specs.Scheme.{total, widthsOf, validOf}
+use Rattle.scheme.specs.Scheme.{total, widthsOf, boughtOf}
 use Rattle.scheme.specs.declared.PagingScheme.{PagingScheme}
 use Rattle.plan.specs.declared.Plan.{Plan}
 use Rattle.plan.specs.declared.Place.{Place}
@@ -56,10 +56,10 @@ unfoldable pub rowFrom : Plan → ℕ → ℕ → ℕ → ℕ → ℕ → List W
 rowFrom p l parent pa i next =
     rowWrites p (below p l) (tableWrites p (below p l)) (room p (below p l)) parent pa (entries p l - i) i next
 
--- a scheme that is valid, in an array of four widths
+-- a scheme of document 01, in an array of four widths
 pub record Fit (s : PagingScheme) : Type 0 where
   pub array : length (s .«level_bits») ≡ 4
-  pub valid : validOf s ≡ true
+  pub valid : boughtOf s ≡ true
 
 -- a plan over such a scheme, with the flags' six bits
 pub record Good (p : Plan) : Type 0 where

@@ -1,5 +1,7 @@
--- The fields of a page-table entry: "PTE bits 0-7 are V R W X U G A D, the PPN is bits 31-10".
-use Prim.Native.Nat.{ℕ}
+-- The fields of a page-table entry: "PTE bits 0-7 are V R W X U G A D, the PPN is bits 31-10"; of Sv39, "PPN in bits 53-10". An entry of
+-- 32 bits has nothing above bit 31, so one definition serves both (`ppn-short`, `high-short` of proofs/Short.antt).
+use Prim.Native.Nat.{ℕ, _/_, _^_}
+use lib.Dec.{eqb}
 use mathlib.Core.Bool.{Bool, not, _&&_, _||_}
 use Rattle.bits.specs.Bits.{bit, fieldOf}
 use Rattle.pte.specs.declared.PtePerms.{PtePerms}
@@ -31,10 +33,10 @@ leafOf w = isLeaf (permsOf w)
 abbrev pub reserved : PtePerms → Bool
 reserved p = p .w && not (p .r)
 
--- the PPN, in a format whose PPN has so many bits
-abbrev pub ppnIn : ℕ → ℕ → ℕ
-ppnIn bits w = fieldOf 10 bits w
-
--- document 01's entries have 22
+-- "PPN in bits 53-10"
 abbrev pub ppnOf : ℕ → ℕ
-ppnOf w = ppnIn 22 w
+ppnOf w = fieldOf 10 44 w
+
+-- "Bits 63-54 set in an entry"
+abbrev pub highBits : ℕ → Bool
+highBits w = not (eqb (w / 2 ^ 54) 0)

@@ -1,7 +1,7 @@
-// The fields of an Sv32 page-table entry: questions on the 32-bit word, by value.
+// The fields of a page-table entry: questions on the word, by value. An entry of 32 bits is a word whose high half is clear.
 ghost use mathlib.Core.Path.{_≡_};
 ghost use Rattle.bits.specs.Bits.{bit, withBit};
-ghost use Rattle.pte.specs.Entry.{validBit, permsOf, globalBit, aPlace, dPlace, leafOf, ppnOf};
+ghost use Rattle.pte.specs.Entry.{validBit, permsOf, globalBit, aPlace, dPlace, highBits, leafOf, ppnOf};
 
 pub struct PtePerms {
     pub r: bool,
@@ -11,11 +11,11 @@ pub struct PtePerms {
 }
 
 pub struct Pte {
-    pub raw: u32,
+    pub raw: u64,
 }
 
 impl Pte {
-    pub fn new(raw: u32) -> Self
+    pub fn new(raw: u64) -> Self
         ensures { λ r. ⌜ r .raw ≡ raw ⌝ }
     {
         Self { raw }
@@ -56,10 +56,17 @@ impl Pte {
         self.raw & 0x80 != 0
     }
 
-    pub fn ppn(self) -> u32
+    pub fn ppn(self) -> u64
         ensures { λ r. ⌜ r ≡ ppnOf (self .raw) ⌝ }
     {
-        (self.raw >> 10) & 0x003F_FFFF
+        (self.raw >> 10) & 0xFFF_FFFF_FFFF
+    }
+
+    // Whether a bit above the PPN is set: never in an entry of 32 bits.
+    pub fn high(self) -> bool
+        ensures { λ r. ⌜ r ≡ highBits (self .raw) ⌝ }
+    {
+        self.raw >> 54 != 0
     }
 
     // A leaf has at least one of R, W, X set.

@@ -62,7 +62,7 @@ class-high s four v i h =
     let level = length ws - 1 - i in
     let k : length ws - i ≡ suc level = omega arith in
     let is = class-total ws i (omega arith) ∙ ap (λ (n : ℕ). total (drop n ws)) k in
-    omega (arith, is, total-at ws level, ok-at ws level (v .ok) (omega arith) .0, v .all-32, v .offset-low)
+    omega (arith, is, total-at ws level, v .low level (omega arith), v .all, v .bits-low, v .offset-low)
 
 -- the array is filled from the top level on: the classes of `ws` are yet to stand before what is written
 module _ (masks : List ℕ) (n i : ℕ) where

@@ -3,7 +3,7 @@ use Prim.Native.Nat.{ℕ}
 use mathlib.Core.Bool.{Bool, cond}
 use Rattle.scheme.specs.declared.refusal.Refusal.{Refusal}
 use Rattle.scheme.specs.declared.refusal.Refusal.the-variants.{BadScheme, TooManyEntries, Unfit, RootUnaligned}
-use Rattle.scheme.specs.declared.refusal.Refusal.the-variants.{TopTableOutside, BadFlags, NoRoom, BadLayout}
+use Rattle.scheme.specs.declared.refusal.Refusal.the-variants.{TopTableOutside, BadFlags, NoRoom, BadLayout, BadMode}
 use Rattle.scheme.specs.declared.refusal.Asked.{Asked}
 use Rattle.scheme.specs.declared.refusal.Asked.the-variants.{Is, Refused}
 use Rattle.scheme.specs.declared.refusal.Said.{Said}
@@ -26,6 +26,8 @@ numberOf BadFlags = 6
 numberOf NoRoom = 7
 -- the bundle breaks its layout
 numberOf BadLayout = 8
+-- "a satp mode that is neither"
+numberOf BadMode = 10
 
 -- "A refusal returns its number, the state it was handed .., and RAM as it was"
 unfoldable pub onGrant : {A : Type 0} → Said → A → A → A

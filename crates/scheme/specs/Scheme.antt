@@ -1,10 +1,11 @@
 -- Paging schemes: "a page offset width and one to four index widths, top first".
-use Prim.Native.Nat.{ℕ, suc, _+_, _-_, _*_, _/_, _^_}
+use Prim.Native.Nat.{ℕ, suc, _+_, _-_, _*_, _/_, _^_, _≤_, _<_}
 use mathlib.Core.List.{List, [], _∷_, _++_}
-use mathlib.Core.Bool.{Bool, true, _&&_, cond}
+use mathlib.Core.Bool.{Bool, true, not, _&&_, cond}
 use lib.ListN.{length, getD, take, drop}
 use lib.Dec.{leb, ltb, eqb}
 use Rattle.scheme.specs.declared.PagingScheme.{PagingScheme}
+use Rattle.scheme.specs.declared.Format.{Format}
 use Rattle.scheme.specs.declared.LeafMasks.{LeafMasks}
 use Rattle.scheme.specs.declared.refusal.Asked.{Asked}
 use Rattle.scheme.specs.declared.refusal.Refusal.the-variants.{BadScheme}
@@ -14,6 +15,19 @@ use Rattle.scheme.specs.Refusals.{asked}
 -- "Sv32": offset 12, widths 10 and 10
 abbrev pub sv32Scheme : PagingScheme
 sv32Scheme = record { «offset_bits» = 12; «level_bits» = 10 ∷ 10 ∷ 0 ∷ 0 ∷ []; levels = 2 }
+
+-- "the manual's Sv39: three widths of 9, offset 12"
+abbrev pub sv39Scheme : PagingScheme
+sv39Scheme = record { «offset_bits» = 12; «level_bits» = 9 ∷ 9 ∷ 9 ∷ 0 ∷ []; levels = 3 }
+
+unfoldable pub isSv39 : PagingScheme → Bool
+isSv39 s =
+    eqb (s .«offset_bits») 12 && (eqb (s .levels) 3
+    && ((eqb (getD (s .«level_bits») 0 0) 9 && eqb (getD (s .«level_bits») 1 0) 9) && eqb (getD (s .«level_bits») 2 0) 9))
+
+-- the bits of a virtual address that a scheme looks at
+unfoldable pub addressBits : PagingScheme → ℕ
+addressBits s = cond (isSv39 s) 39 32
 
 -- the sum of widths
 unfoldable pub total : List ℕ → ℕ
@@ -40,10 +54,14 @@ widthsOf s = take (s .levels) (s .«level_bits»)
 abbrev pub totalBits : PagingScheme → ℕ
 totalBits s = s .«offset_bits» + total (widthsOf s)
 
--- "Valid: offset 12 to 30, each used width 1 to 12, all together 32", with "one to four index widths"
+-- "Valid: offset 12 to 30, each used width 1 to 12, all together 32", with "one to four index widths", or Sv39
 unfoldable pub validOf : PagingScheme → Bool
 validOf s =
-    between 12 30 (s .«offset_bits») && (between 1 4 (s .levels) && (okWidths (widthsOf s) && eqb (totalBits s) 32))
+    between 12 30 (s .«offset_bits») && (between 1 4 (s .levels) && (okWidths (widthsOf s) && eqb (totalBits s) (addressBits s)))
+
+-- "The bundle and the installer stay with 01's schemes"
+unfoldable pub boughtOf : PagingScheme → Bool
+boughtOf s = validOf s && not (isSv39 s)
 
 -- refusal 1 otherwise: "the scheme is not valid, or a level asked about is not below its count"
 abbrev pub knownLevel : PagingScheme → ℕ → Bool
@@ -81,10 +99,29 @@ leafMasks s =
     (record { masks = padded (classes (widthsOf s)); count = s .levels; said = Granted })
     (record { masks = padded []; count = 0; said = Refused BadScheme })
 
+-- document 01's format: words of four bytes, addresses "kept to 32 bits", and nothing above the 32 bits of a virtual address
+abbrev pub sv32 : Format
+sv32 = record { bytes = 4; space = 32; top = 32; ones = 0 }
+
+-- "8-byte entries", PPNs of 44 bits times 4096, "address bits 63-39 all equal to bit 38": from bit 38 on, 26 bits
+abbrev pub sv39 : Format
+sv39 = record { bytes = 8; space = 56; top = 38; ones = 2 ^ 26 - 1 }
+
+unfoldable pub formatOf : PagingScheme → Format
+formatOf s = cond (isSv39 s) sv39 sv32
+
+-- what the formats have in common: an entry lies whole in a page, and addresses and their tops in a word
+pub record Modest (f : Format) : Type 0 where
+  pub some : 0 < f .bytes
+  pub short : f .bytes ≤ 8
+  pub roomy : 12 ≤ f .space
+  pub narrow : f .space ≤ 56
+  pub tall : 32 ≤ f .top
+
 -- n bytes in whole frames of 4096
 abbrev pub roundUp : ℕ → ℕ
 roundUp n = (n + 4095) / 4096 * 4096
 
 -- "RAM size less the top table's bytes rounded up to 4096, not under 0, rounded down to 4096"
 unfoldable pub rootPa : PagingScheme → ℕ → Asked
-rootPa s size = asked (validOf s) ((size - roundUp (4 * 2 ^ getD (widthsOf s) 0 0)) / 4096 * 4096)
+rootPa s size = asked (validOf s) ((size - roundUp (formatOf s .bytes * 2 ^ getD (widthsOf s) 0 0)) / 4096 * 4096)

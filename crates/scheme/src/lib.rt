@@ -1,12 +1,13 @@
-// Paging schemes of a 32-bit address: a page offset width, and one to four index widths, top first. Beside them stand the
+// Paging schemes of a 32-bit address, and Sv39: a page offset width, and one to four index widths, top first. Beside them stand the
 // small types that every crate above shares: refusals, satp, the kind of a map, accesses.
 ghost use mathlib.Core.Path.{_≡_};
 ghost use mathlib.Core.Bool.{true};
 ghost use Prim.Native.Nat.{_+_, _≤_};
 ghost use lib.ListN.{take, drop};
 ghost use Rattle.scheme.specs.Scheme.{total, okWidths, levelsOf, widthsOf, totalBits, validOf, knownLevel, sv32Scheme};
-ghost use Rattle.scheme.specs.Scheme.{shiftOf, shiftAt, pageBytesAt, entriesAt, rootPa};
+ghost use Rattle.scheme.specs.Scheme.{shiftOf, shiftAt, pageBytesAt, entriesAt, rootPa, isSv39, addressBits, sv39Scheme, boughtOf, formatOf};
 ghost use Rattle.scheme.specs.Scheme.{classes, padded, leafMasks};
+ghost use Rattle.scheme.specs.Satp.{modeOf, asidOf, rootOf};
 
 mod access;
 mod map;
@@ -30,6 +31,15 @@ pub struct PagingScheme {
     pub levels: u8,
 }
 
+// What may differ between table formats: an entry's bytes, the bits that a physical address is kept to, and the virtual address's top:
+// the bits from `top` on are all clear, or they are `ones`.
+pub struct Format {
+    pub bytes: u8,
+    pub space: u8,
+    pub top: u8,
+    pub ones: u64,
+}
+
 // The page classes of a scheme in ascending order, `count` of them, and 0 behind.
 pub struct LeafMasks {
     pub masks: [u8; 4],
@@ -46,6 +56,70 @@ impl PagingScheme {
             level_bits: [10, 10, 0, 0],
             levels: 2,
         }
+    }
+
+    pub fn sv39() -> Self
+        ensures { λ r. ⌜ r ≡ sv39Scheme ⌝ }
+    {
+        PagingScheme {
+            offset_bits: 12,
+            level_bits: [9, 9, 9, 0],
+            levels: 3,
+        }
+    }
+
+    pub fn is_sv39(self) -> bool
+        ensures { λ r. ⌜ r ≡ isSv39 self ⌝ }
+    {
+        let nines = (self.level_bits[0] == 9)
+            & (self.level_bits[1] == 9)
+            & (self.level_bits[2] == 9);
+        (self.offset_bits == 12) & ((self.levels == 3) & nines)
+    }
+
+    // The bits of a virtual address that the scheme looks at.
+    fn address_bits(self) -> u8
+        ensures { λ r. ⌜ r ≡ addressBits self ⌝ }
+    {
+        if self.is_sv39() { 39 } else { 32 }
+    }
+
+    pub fn format(self) -> Format
+        ensures { λ r. ⌜ r ≡ formatOf self ⌝ }
+    {
+        if self.is_sv39() {
+            return Format {
+                bytes: 8,
+                space: 56,
+                top: 38,
+                ones: 0x3FF_FFFF,
+            };
+        }
+        Format {
+            bytes: 4,
+            space: 32,
+            top: 32,
+            ones: 0,
+        }
+    }
+
+    // The fields of satp, as the scheme has them.
+    pub fn satp_mode(self, satp: Satp) -> SatpMode
+        ensures { λ r. ⌜ r ≡ modeOf self (satp .raw) ⌝ }
+    {
+        satp.mode(self.is_sv39())
+    }
+
+    pub fn asid_of(self, satp: Satp) -> u16
+        ensures { λ r. ⌜ r ≡ asidOf self (satp .raw) ⌝ }
+    {
+        satp.asid(self.is_sv39())
+    }
+
+    pub fn root_of(self, satp: Satp) -> u64
+        ensures { λ r. ⌜ r ≡ rootOf self (satp .raw) ⌝ }
+    {
+        satp.ppn(self.is_sv39())
     }
 
     pub fn num_levels(self) -> u8
@@ -79,7 +153,7 @@ impl PagingScheme {
         sum
     }
 
-    // The offset plus all widths, for any scheme: 32 where it is valid.
+    // The offset plus all widths, for any scheme: 32 or 39 where it is valid.
     pub fn total_bits(self) -> u32
         ensures { λ r. ⌜ r ≡ totalBits self ⌝ }
     {
@@ -106,7 +180,15 @@ impl PagingScheme {
     {
         let offset = (12 <= self.offset_bits) & (self.offset_bits <= 30);
         let count = (1 <= self.levels) & (self.levels <= 4);
-        offset & (count & (self.widths_ok() & (self.total_bits() == 32)))
+        let all = self.address_bits() as u32;
+        offset & (count & (self.widths_ok() & (self.total_bits() == all)))
+    }
+
+    // Whether it is one of document 01's schemes.
+    pub fn is_bought(self) -> bool
+        ensures { λ r. ⌜ r ≡ boughtOf self ⌝ }
+    {
+        self.is_valid() & !self.is_sv39()
     }
 
     // Whether the scheme is valid and has this level.
@@ -164,7 +246,7 @@ impl PagingScheme {
     {
         let n = self.levels as usize;
         let mut masks = [0u8; 4];
-        let mut rest = 32 - self.offset_bits;
+        let mut rest = self.address_bits() - self.offset_bits;
         let mut i = 0;
         while i < n {
             let w = self.level_bits[i];
@@ -200,7 +282,8 @@ impl PagingScheme {
     {
         if self.is_valid() {
             let w = self.level_bits[0];
-            let bytes = 4u32 << w;
+            let size = self.format().bytes as u32;
+            let bytes = size << w;
             let room = (bytes + 4095) / 4096 * 4096;
             if mem_size < room {
                 return Asked::Is(0);

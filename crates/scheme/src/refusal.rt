@@ -12,6 +12,7 @@ pub enum Refusal {
     BadFlags,
     NoRoom,
     BadLayout,
+    BadMode,
 }
 
 // A number that was asked for, or the refusal.
@@ -39,6 +40,7 @@ impl Refusal {
             Refusal::BadFlags => 6,
             Refusal::NoRoom => 7,
             Refusal::BadLayout => 8,
+            Refusal::BadMode => 10,
         }
     }
 }

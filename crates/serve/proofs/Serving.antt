@@ -6,7 +6,7 @@ use mathlib.Core.Path.{_≡_, refl, sym, ap, _∙_}
 use mathlib.Core.Bool.{Bool, true, false, cond}
 use mathlib.Core.List.{List}
 use Rattle.scheme.specs.Satp.{asidOf}
-use Rattle.scheme.specs.Scheme.{validOf}
+use Rattle.scheme.specs.Scheme.{validOf, formatOf}
 use Rattle.scheme.specs.declared.PagingScheme.{PagingScheme}
 use Rattle.walker.specs.Descent.{descentOf}
 use Rattle.walker.specs.declared.End.the-variants as End
@@ -32,7 +32,7 @@ use Rattle.access.specs.declared.Served.{Served}
 
 -- a miss's page remembered, by whether the TLB is on
 abbrev pub kept-as : Mmu → Access → WalkResult → Bool → Mmu
-kept-as m q r on = withTlb m (cond on (tlbInstall (tallied 0 1 0 (m .tlb)) (madeWith (m .scheme .«offset_bits») (asidOf (m .satp .raw)) q r)) (tallied 0 1 0 (m .tlb)))
+kept-as m q r on = withTlb m (cond on (tlbInstall (tallied 0 1 0 (m .tlb)) (madeWith (m .scheme .«offset_bits») (asidOf (m .scheme) (m .satp .raw)) q r)) (tallied 0 1 0 (m .tlb)))
 
 -- ---- tallies and probes keep what the core needs
 
@@ -51,7 +51,7 @@ probe-ready m q r = either (m .«tlb_enabled») _ _ (record { valid = r .valid; 
 -- ---- what a walk's answer says of its verdict
 
 module _ (m : Mmu) (q : Access) (w : WalkAnswer) where
-  pub served-ok : (v : Verdict) (r : WalkResult) → w ≡ answerOf q v → w .answer ≡ Ok r
+  pub served-ok : (v : Verdict) (r : WalkResult) → w ≡ answerOf (formatOf (m .scheme)) q v → w .answer ≡ Ok r
       → _≡_ {A = Served}
       (record {
         said = okAt (w .words) (r .paddr) (m .tlb .config .«miss_penalty»);
@@ -60,14 +60,14 @@ module _ (m : Mmu) (q : Access) (w : WalkAnswer) where
       (walkServed m q v)
   unfolding walkServed madeOf
   served-ok (Page l) r e f =
-      let g : Ok (resultOf (q .vaddr) l) ≡ Ok r = sym (ap (λ (x : WalkAnswer). x .answer) e) ∙ f in
-      let k : resultOf (q .vaddr) l ≡ r = cc in
+      let g : Ok (resultOf (formatOf (m .scheme)) (q .vaddr) l) ≡ Ok r = sym (ap (λ (x : WalkAnswer). x .answer) e) ∙ f in
+      let k : resultOf (formatOf (m .scheme)) (q .vaddr) l ≡ r = cc in
       rw (sym k, e)
   served-ok (Fault why level) r e f =
       let g = sym (ap (λ (x : WalkAnswer). x .answer) e) ∙ f in
       let z : _≡_ {A = ℕ} 0 1 = cc in absurd (omega arith)
 
-  pub served-err : (v : Verdict) (x : PageFault) → w ≡ answerOf q v → w .answer ≡ Err x
+  pub served-err : (v : Verdict) (x : PageFault) → w ≡ answerOf (formatOf (m .scheme)) q v → w .answer ≡ Err x
       → _≡_ {A = Served} (record { said = faultOf (w .words) q; mmu = withTlb m (tallied 0 1 1 (m .tlb)) }) (walkServed m q v)
   unfolding walkServed
   served-err (Fault why level) x e f = rw e
@@ -77,12 +77,12 @@ module _ (m : Mmu) (q : Access) (w : WalkAnswer) where
 
 -- a page of a valid scheme has fewer bits than an address
 pub page-small : (s : PagingScheme) (root : ℕ) (ram : List ℕ) (q : Access) (r : WalkResult) → validOf s ≡ true
-    → answerOf q (walkOf s root ram q) .answer ≡ Ok r → r .«page_bits» < 32
+    → answerOf (formatOf s) q (walkOf s root ram q) .answer ≡ Ok r → r .«page_bits» < 32
 page-small s root ram q r ok f = go (walkOf s root ram q) refl f
   where
-    go : (v : Verdict) → walkOf s root ram q ≡ v → answerOf q v .answer ≡ Ok r → r .«page_bits» < 32
+    go : (v : Verdict) → walkOf s root ram q ≡ v → answerOf (formatOf s) q v .answer ≡ Ok r → r .«page_bits» < 32
     go (Page l) e f =
-        let k : resultOf (q .vaddr) l ≡ r = cc in
+        let k : resultOf (formatOf s) (q .vaddr) l ≡ r = cc in
         omega (arith, block-sizes s root ram (q .vaddr) ok .1, end-shift q (descentOf ram root s (q .vaddr)) l e, ap (λ (x : WalkResult). x .«page_bits») k)
     go (Fault why level) e f = let z : _≡_ {A = ℕ} 0 1 = cc in absurd (omega arith)
 

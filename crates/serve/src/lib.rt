@@ -10,7 +10,7 @@ ghost use mathlib.Core.Path.{_≡_};
 ghost use mathlib.Core.Bool.{cond};
 ghost use Prim.Native.Nat.{_<_};
 ghost use Rattle.scheme.specs.Satp.{asidOf};
-ghost use Rattle.walker.specs.Descent.{sv32};
+ghost use Rattle.scheme.specs.Scheme.{formatOf};
 ghost use Rattle.walk.specs.Answer.{markedBy};
 ghost use Rattle.tlb.specs.State.{tlbInstall};
 ghost use Rattle.state.specs.State.{Ready, withTlb};
@@ -27,8 +27,8 @@ fn consult(m: Mmu, q: Access) -> Consulted
             mmu: m,
         };
     }
-    let vpn = bits::shr32(q.vaddr, m.scheme.offset_bits);
-    let asid = m.satp.asid();
+    let vpn = bits::shr64(q.vaddr, m.scheme.offset_bits);
+    let asid = m.scheme.asid_of(m.satp);
     let t = m.tlb;
     let p = tlb_probe::probe(t, vpn, asid);
     let found = p.lookup;
@@ -42,13 +42,13 @@ fn consult(m: Mmu, q: Access) -> Consulted
 // A miss whose walk came to a page: counted, and installed if the TLB is on.
 fn remember(m: Mmu, q: Access, r: WalkResult) -> Mmu
     requires { ⌜ Ready m × (r .«page_bits» < 32) ⌝ }
-    ensures { λ n. ⌜ n ≡ withTlb m (cond (m .«tlb_enabled») (tlbInstall (tallied 0 1 0 (m .tlb)) (madeWith (m .scheme .«offset_bits») (asidOf (m .satp .raw)) q r)) (tallied 0 1 0 (m .tlb))) ⌝ }
+    ensures { λ n. ⌜ n ≡ withTlb m (cond (m .«tlb_enabled») (tlbInstall (tallied 0 1 0 (m .tlb)) (madeWith (m .scheme .«offset_bits») (asidOf (m .scheme) (m .satp .raw)) q r)) (tallied 0 1 0 (m .tlb))) ⌝ }
 {
     let n = access::counted(m, 0, 1, 0);
     if !m.tlb_enabled {
         return n;
     }
-    let e = access::made(m.scheme.offset_bits, m.satp.asid(), q, r);
+    let e = access::made(m.scheme.offset_bits, m.scheme.asid_of(m.satp), q, r);
     let t = n.tlb;
     let u = tlb_install::install(t, e);
     let mut k = n;
@@ -59,11 +59,11 @@ fn remember(m: Mmu, q: Access, r: WalkResult) -> Mmu
 // The TLB has nothing to say: the walk answers.
 fn miss(m: Mmu, q: Access, ram: &mut [u8]) -> Served
     requires { ⌜ Ready m ⌝ }
-    ensures { λ r. ⌜ (r ≡ walkServed m q (missWalk m q (now (ram .entry)))) × (now (ram .exit) ≡ markedBy sv32 (q .kind) (now (ram .entry)) (missWalk m q (now (ram .entry)))) ⌝ }
+    ensures { λ r. ⌜ (r ≡ walkServed m q (missWalk m q (now (ram .entry)))) × (now (ram .exit) ≡ markedBy (formatOf (m .scheme)) (q .kind) (now (ram .entry)) (missWalk m q (now (ram .entry)))) ⌝ }
 {
     let s = m.scheme;
     let satp = m.satp;
-    let w = walk::walk_valid(s, satp.ppn(), ram, q);
+    let w = walk::walk_valid(s, s.root_of(satp), ram, q);
     let answer = w.answer;
     match answer {
         Walked::Ok(r) => Served {
@@ -84,7 +84,7 @@ pub fn serve(m: Mmu, q: Access, ram: &mut [u8]) -> Served
 {
     let satp = m.satp;
     let mode = q.mode;
-    if access::passes(m.enabled, m.force_translate, satp, mode) {
+    if access::passes(m.scheme, m.enabled, m.force_translate, satp, mode) {
         return Served {
             said: access::ok_at(0, q.vaddr, 0),
             mmu: m,

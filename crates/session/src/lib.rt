@@ -17,14 +17,14 @@ pub struct Settings {
     pub enabled: bool,
     pub force: bool,
     pub tlb_on: bool,
-    pub satp: u32,
+    pub satp: u64,
 }
 
 // What may happen.
 pub enum Event {
     Translate(Access),
     Flush,
-    FlushAt(u32),
+    FlushAt(u64),
 }
 
 // The scheme, satp and the switches taken over by a new state.
@@ -47,7 +47,7 @@ pub fn set_up(config: TlbConfig, t: Settings) -> Kept
     ensures { λ r. ⌜ (r .said ≡ settingsSaid config t) × (r .mmu ≡ startOf config t) ⌝ }
 {
     let s = t.scheme;
-    if !s.is_valid() {
+    if !s.is_bought() {
         let plain = mmu::new(entry::default_config());
         let blank = plain.mmu;
         return Kept {

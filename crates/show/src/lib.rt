@@ -4,9 +4,9 @@ pub fn text(s: &[u8]) {
 }
 
 // A space, and eight hexadecimal digits.
-pub fn hex(n: u32) {
+pub fn hex(n: u64) {
     text(b" ");
-    io::print_hex(1, n as u64, 8);
+    io::print_hex(1, n, 8);
 }
 
 // A space, and a decimal.

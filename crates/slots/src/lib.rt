@@ -17,7 +17,7 @@ pub struct Swept {
 }
 
 // What a search asks of a slot: that it is free, or that it answers for the page.
-pub fn wanted(free: bool, e: entry::TlbEntry, vpn: u32, asid: u16) -> bool
+pub fn wanted(free: bool, e: entry::TlbEntry, vpn: u64, asid: u16) -> bool
     ensures { λ r. ⌜ r ≡ wantedOf free vpn asid e ⌝ }
 {
     if free {
@@ -32,7 +32,7 @@ pub fn first_slot(
     start: usize,
     end: usize,
     free: bool,
-    vpn: u32,
+    vpn: u64,
     asid: u16,
 ) -> Slot
     requires { ⌜ (start ≤ end) × (end ≤ 128) ⌝ }
@@ -123,7 +123,7 @@ pub fn flush_slots(
     start: usize,
     n: usize,
     all: bool,
-    vpn: u32,
+    vpn: u64,
 ) -> [entry::TlbEntry; 128]
     requires { ⌜ start + n ≤ 128 ⌝ }
     ensures { λ r. ⌜ r ≡ mapIn (clearedOf all vpn) start n es ⌝ }

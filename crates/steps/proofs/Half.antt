@@ -7,7 +7,7 @@ use lib.ListN.{length}
 use Rattle.walk.specs.declared.Access.{Access}
 use Rattle.state.specs.State.{fitOf}
 use Rattle.state.specs.declared.Mmu.{Mmu}
-use Rattle.mmu.specs.Calls.{translateOf}
+use Rattle.mmu.specs.Calls.{modeKnown, translateOf}
 use Rattle.bundle.specs.Parts.{eventAt}
 use Rattle.writer.specs.Put.{Put}
 use Rattle.writer.proofs.Puts as Puts
@@ -19,7 +19,7 @@ use Rattle.steps.specs.Steps.{eventsFrom, stepLine, linesFrom}
 -- the cause that an answer tells is short, as `put_answer` asks
 pub translated-short : (m : Mmu) (q : Access) (ram : List ℕ) → Short (translateOf m q ram)
 unfolding translateOf
-translated-short m q ram = either (fitOf m) _ _ (served-short m q ram) (omega arith)
+translated-short m q ram = either (fitOf m) _ _ (either (modeKnown (m .scheme) (m .satp .raw)) _ _ (served-short m q ram) (omega arith)) (omega arith)
 
 pub record Half (s : List ℕ) (first count : ℕ) (m₀ : Mmu) (ram₀ out₀ ram out : List ℕ) (m : Mmu) (at place left : ℕ) : Type 0 where
   pub inside : place + 8 * left ≤ length s

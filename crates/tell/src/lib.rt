@@ -11,7 +11,7 @@ use walker::Found;
 use walker::Reason;
 
 pub fn put(ram: &mut [u8], at: u32, word: u32) {
-    memory::store32(ram, at, word);
+    memory::store(ram, at as u64, 4, 32, word as u64);
 }
 
 fn byte(n: u32) -> u8 {
@@ -50,7 +50,7 @@ fn mode_of(n: u32) -> PrivMode {
 // Who asks, by the numbers that the trace bundle has for kind and privilege.
 pub fn asked(vaddr: u32, kind: u32, mode: u32) -> Access {
     Access {
-        vaddr,
+        vaddr: vaddr as u64,
         kind: kind_of(kind),
         mode: mode_of(mode),
     }
@@ -73,7 +73,7 @@ fn mode_name(mode: PrivMode) {
 }
 
 // Who asks, and the address that the answer names: the one asked for, or a fault's own.
-pub fn who(q: Access, vaddr: u32) {
+pub fn who(q: Access, vaddr: u64) {
     let kind = q.kind;
     let mode = q.mode;
     show::hex(vaddr);
@@ -90,12 +90,14 @@ fn reason_name(why: Reason) {
         Reason::OutOfLevels => show::text(b" out of levels"),
         Reason::NoRight => show::text(b" no right"),
         Reason::Privilege => show::text(b" privilege"),
+        Reason::WrongTop => show::text(b" wrong top"),
+        Reason::HighBits => show::text(b" high bits"),
     }
 }
 
 // The reason of a fault and its level, by the descent and the judgement alone.
 fn verdict(ram: &[u8], s: PagingScheme, root: u32, access: Access) {
-    let Found::At(d) = walker::find(ram, root, s, access.vaddr) else {
+    let Found::At(d) = walker::find(ram, root as u64, s, access.vaddr) else {
         return;
     };
     match walk::judge(d, access) {
@@ -143,7 +145,7 @@ fn replied(q: Access, reply: Reply) {
 
 // The word at an address, or a dash.
 pub fn word(ram: &[u8], at: u32) {
-    match memory::load32(ram, at) {
+    match memory::load(ram, at as u64, 4, 32) {
         Word::Is(x) => show::hex(x),
         Word::Unreadable => show::text(b" -"),
     }
@@ -151,7 +153,7 @@ pub fn word(ram: &[u8], at: u32) {
 
 // One walk: who asks, the answer, the words asked for, the word at `leaf` afterwards, and the reason of a fault.
 pub fn walked(ram: &mut [u8], s: PagingScheme, root: u32, access: Access, leaf: u32) {
-    replied(access, walk::walk(s, root, ram, access));
+    replied(access, walk::walk(s, root as u64, ram, access));
     word(ram, leaf);
     verdict(ram, s, root, access);
     show::end();

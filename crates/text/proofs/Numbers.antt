@@ -11,7 +11,7 @@ use Rattle.scheme.specs.Access.{causeOf}
 use Rattle.scheme.specs.Refusals.{numberOf}
 use Rattle.scheme.specs.declared.refusal.Refusal.{Refusal}
 use Rattle.scheme.specs.declared.refusal.Refusal.the-variants.{BadScheme, TooManyEntries, Unfit, RootUnaligned}
-use Rattle.scheme.specs.declared.refusal.Refusal.the-variants.{TopTableOutside, BadFlags, NoRoom, BadLayout}
+use Rattle.scheme.specs.declared.refusal.Refusal.the-variants.{TopTableOutside, BadFlags, NoRoom, BadLayout, BadMode}
 use Rattle.scheme.specs.declared.access.AccessType.{AccessType}
 use Rattle.scheme.specs.declared.access.AccessType.the-variants.{Fetch, Load, Store}
 use Rattle.walk.specs.declared.Access.{Access}
@@ -34,6 +34,7 @@ refusal-below TopTableOutside = omega arith
 refusal-below BadFlags = omega arith
 refusal-below NoRoom = omega arith
 refusal-below BadLayout = omega arith
+refusal-below BadMode = omega arith
 
 pub refusal-digits : (n : ℕ) (r : Refusal) → n ≡ numberOf r → length (decimalOf n) ≤ 2
 refusal-digits n r e = two n (rw e (refusal-below r))

@@ -25,7 +25,7 @@ pub fn put_flush(out: &mut [u8], at: usize) -> usize
 }
 
 // `flush va`
-pub fn put_flush_at(out: &mut [u8], at: usize, va: u32) -> usize
+pub fn put_flush_at(out: &mut [u8], at: usize, va: u64) -> usize
     requires { ⌜ at + 15 ≤ length (now out) ⌝ }
     ensures { λ r. ⌜ Put 15 (now (out .entry)) (now (out .exit)) at r (flushAtLine va) ⌝ }
 {

@@ -30,7 +30,7 @@ fn touch(t: Tlb, i: usize) -> Probed
 }
 
 // The first slot that answers, in the sets of the page classes in turn.
-fn find(t: Tlb, vpn: u32, asid: u16) -> slots::Slot
+fn find(t: Tlb, vpn: u64, asid: u16) -> slots::Slot
     requires { ⌜ Geo t ⌝ }
     requires { ⌜ t .«mask_count» ≤ 4 ⌝ }
     ensures { λ r. ⌜ r ≡ findFrom (shapeOf t) (shapeOf t .classes) vpn asid (t .entries) ⌝ }
@@ -52,7 +52,7 @@ fn find(t: Tlb, vpn: u32, asid: u16) -> slots::Slot
 }
 
 // A probe: the found entry is touched; a miss changes nothing.
-pub fn probe(t: Tlb, vpn: u32, asid: u16) -> Probed
+pub fn probe(t: Tlb, vpn: u64, asid: u16) -> Probed
     requires { ⌜ Geo t ⌝ }
     requires { ⌜ t .«mask_count» ≤ 4 ⌝ }
     ensures { λ r. ⌜ r ≡ tlbProbe t vpn asid ⌝ }
@@ -69,7 +69,7 @@ pub fn probe(t: Tlb, vpn: u32, asid: u16) -> Probed
 }
 
 // The n slots from start on are flushed, and nothing else changes.
-fn flush_part(t: Tlb, start: usize, n: usize, all: bool, vpn: u32) -> Tlb
+fn flush_part(t: Tlb, start: usize, n: usize, all: bool, vpn: u64) -> Tlb
     requires { ⌜ start + n ≤ 128 ⌝ }
     ensures { λ r. ⌜ r ≡ withEntries t (mapIn (clearedOf all vpn) start n (t .entries)) ⌝ }
 {
@@ -89,7 +89,7 @@ pub fn flush(t: Tlb) -> Tlb
 }
 
 // Every entry that answers for the page goes, in any address space, from the sets that a probe of it visits.
-pub fn flush_page(t: Tlb, vpn: u32) -> Tlb
+pub fn flush_page(t: Tlb, vpn: u64) -> Tlb
     requires { ⌜ Geo t ⌝ }
     requires { ⌜ t .«mask_count» ≤ 4 ⌝ }
     ensures { λ r. ⌜ r ≡ tlbFlushPage t vpn ⌝ }
@@ -109,10 +109,10 @@ pub fn flush_page(t: Tlb, vpn: u32) -> Tlb
 }
 
 // The same for the page of an address.
-pub fn flush_vaddr(t: Tlb, vaddr: u32) -> Tlb
+pub fn flush_vaddr(t: Tlb, vaddr: u64) -> Tlb
     requires { ⌜ Geo t ⌝ }
     requires { ⌜ t .«mask_count» ≤ 4 ⌝ }
     ensures { λ r. ⌜ r ≡ tlbFlushVaddr t vaddr ⌝ }
 {
-    flush_page(t, bits::shr32(vaddr, t.offset_bits))
+    flush_page(t, bits::shr64(vaddr, t.offset_bits))
 }

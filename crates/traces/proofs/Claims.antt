@@ -1,6 +1,6 @@
 -- A proof of each statement in specs/Claims.antt.
 use Prim.Native.Nat.{ℕ, _+_, _≤_, _<_}
-use mathlib.Core.Path.{_≡_, refl, sym, ap, _∙_}
+use mathlib.Core.Path.{_≡_, refl, sym, ap, _∙_, subst}
 use mathlib.Core.Bool.{Bool, true, false, cond}
 use mathlib.Core.List.{List, Perm·rfl}
 use native.Mathlib.Omega.{arith}
@@ -9,21 +9,22 @@ use lib.Dec.{eqb, ltb}
 use lib.ListN.{length, getD, take, drop, length-take, List·getD-eq-default}
 use lib.Seq.{getD-take, getD-drop, take-all, length-take-le}
 use borrow.Author.Tests.{ltb-true, ltb-false, eqb-true, eqb-false, le-ltb}
-use Rattle.scheme.specs.Scheme.{validOf}
+use Rattle.scheme.specs.Scheme.{boughtOf}
 use Rattle.scheme.specs.declared.PagingScheme.{PagingScheme}
 use Rattle.scheme.specs.declared.refusal.Refusal.{Refusal}
 use Rattle.scheme.specs.declared.refusal.Refusal.the-variants.{BadScheme, BadLayout}
 use Rattle.scheme.specs.declared.refusal.Said.{Said}
 use Rattle.scheme.specs.declared.refusal.Said.the-variants.{Granted, Refused}
 use Rattle.entry.specs.declared.TlbConfig.{TlbConfig}
-use Rattle.mmu.specs.Calls.{roomFor, newOf, grantedWith, refusedWith}
+use Rattle.mmu.proofs.Refusing.{bought-known}
+use Rattle.mmu.specs.Calls.{modeKnown, roomFor, newOf, grantedWith, refusedWith}
 use Rattle.state.specs.declared.Mmu.{Mmu}
 use Rattle.session.specs.Session.{settingsSaid}
 use Rattle.session.specs.declared.Settings.{Settings}
 use Rattle.order.specs.Claims.{Ready}
 use Rattle.walks.specs.Plain.{Bytes}
 use Rattle.order.proofs.Claims.{start-is-empty, any-order, never-refused}
-use Rattle.order.proofs.Steps.{start-fit}
+use Rattle.order.proofs.Steps.{start-settings, start-fit}
 use Rattle.maps.proofs.Claims.{bytes-stay}
 use Rattle.text.specs.Lines.{refusedLine}
 use Rattle.layout.specs.Layout.{mapLen, goodOf}
@@ -44,11 +45,11 @@ both Granted b e = (refl, e)
 both (Refused why) b e = let z : _≡_ {A = ℕ} 0 1 = cc in absurd (omega arith)
 
 module _ (config : TlbConfig) (t : Settings) (e : settingsSaid config t ≡ Granted) where
-  valid-new : (validOf (t .scheme) ≡ true) × (newOf config .said ≡ Granted)
+  valid-new : (boughtOf (t .scheme) ≡ true) × (newOf config .said ≡ Granted)
   unfolding settingsSaid
-  valid-new = go (validOf (t .scheme)) refl e
+  valid-new = go (boughtOf (t .scheme)) refl e
     where
-      go : (b : Bool) → validOf (t .scheme) ≡ b → cond b (newOf config .said) (Refused BadScheme) ≡ Granted → (validOf (t .scheme) ≡ true) × (newOf config .said ≡ Granted)
+      go : (b : Bool) → boughtOf (t .scheme) ≡ b → cond b (newOf config .said) (Refused BadScheme) ≡ Granted → (boughtOf (t .scheme) ≡ true) × (newOf config .said ≡ Granted)
       go true v h = (v, h)
       go false v h = let z : _≡_ {A = ℕ} 0 1 = cc in absurd (omega arith)
 
@@ -78,6 +79,7 @@ module _ (s : List ℕ) (e : earlyIn s ≡ Granted) where
 
 pub nothing-refused : NothingRefused
 nothing-refused s e = never-refused (eventsIn s) _ (ramIn s) (start-fit (partsIn s .settings) (partsIn s .config) (ready s e) (room s e))
+    (subst (λ (x : Settings). modeKnown (x .scheme) (x .satp) ≡ true) (sym (start-settings (partsIn s .settings) (partsIn s .config) (ready s e) (room s e))) (bought-known (partsIn s .settings .scheme) (partsIn s .settings .satp) (ready s e .valid)))
 
 -- ---- the answers
 

@@ -6,7 +6,6 @@ use Rattle.unique.proofs.Law.{free, fixed}
 
 pub memory : Memory
 memory = record {
-  «is_readable» = λ M 𝓤 H A mem run. (refl, λ κs a. (free 𝓤, fixed 𝓤 _ _ _ (λ r left p. (p, refl))));
   load32 = λ M 𝓤 H A mem run. (refl, λ κs a. (free 𝓤, fixed 𝓤 _ _ _ (λ r left p. (p, refl))));
   store32 = λ M 𝓤 H A mem run. (refl, λ κs a. (free 𝓤, fixed 𝓤 _ _ _ (λ r left p. (p .0, ap (λ ram. (ram, (tt, (tt, tt)))) (p .1)))));
 }

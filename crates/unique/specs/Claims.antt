@@ -22,7 +22,6 @@ use Rattle.ffi.proofs as ffi
 use Rattle.unique.specs.OneAnswer.{Promise}
 
 pub record Memory : Type 2 where
-  pub «is_readable» : Promise memory.is_readable.ended (λ M. memory.is_readable.clauses) (λ M. memory.is_readable.spec)
   pub load32 : Promise memory.load32.ended (λ M. memory.load32.clauses) (λ M. memory.load32.spec)
   pub store32 : Promise memory.store32.ended (λ M. memory.store32.clauses) (λ M. memory.store32.spec)
 

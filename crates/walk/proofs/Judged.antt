@@ -5,15 +5,15 @@ use mathlib.Core.Path.{_≡_, ap, subst, sym}
 use mathlib.Core.List.{List}
 use mathlib.Core.Bool.{Bool, true, false, not}
 use Rattle.pte.specs.Entry.{permsOf}
-use Rattle.scheme.specs.Scheme.{widthsOf}
+use Rattle.scheme.specs.Scheme.{widthsOf, formatOf}
 use Rattle.scheme.specs.declared.PagingScheme.{PagingScheme}
-use Rattle.walker.specs.Descent.{sv32, descentOf}
+use Rattle.walker.specs.Descent.{descentOf}
 use Rattle.walker.specs.declared.Reason.{Reason}
 use Rattle.walker.specs.declared.Reason.the-variants.{NoRight, Privilege}
 use Rattle.walker.specs.declared.Descent.{Descent}
 use Rattle.walker.specs.declared.End.{End}
 use Rattle.walker.specs.declared.End.the-variants as End
-use Rattle.walker.proofs.Ends.{Read, OfPage, page-read}
+use Rattle.walker.proofs.Ends.{Read, OfPage, whole-read}
 use Rattle.walk.specs.Rights.{allows, openTo}
 use Rattle.walk.specs.Verdict.{faultIf, leafJudged, endJudged, judgeOf, walkOf}
 use Rattle.walk.specs.declared.Access.{Access}
@@ -72,8 +72,9 @@ module _ (q : Access) where
   end-shift d l h = shift-of (d .shift) (d .level) (d .end) l h
 
   -- an accepted leaf was readable, and is the word in RAM
-  pub leaf-read : (s : PagingScheme) (root : ℕ) (ram : List ℕ) (l : LeafAt) → walkOf s root ram q ≡ Page l → Read sv32 ram (l .raw) (l .at)
+  pub leaf-read : (s : PagingScheme) (root : ℕ) (ram : List ℕ) (l : LeafAt) → walkOf s root ram q ≡ Page l → Read (formatOf s) ram (l .raw) (l .at)
   unfolding judgeOf descentOf
   leaf-read s root ram l h =
+      let f = formatOf s in
       let e = end-page _ _ (descentOf ram root s (q .vaddr) .end) l h in
-      subst (OfPage sv32 (Read sv32 ram)) e (page-read sv32 ram (q .vaddr) (s .«offset_bits») (widthsOf s) 0 root)
+      subst (OfPage f (Read f ram)) e (whole-read f ram (q .vaddr) (s .«offset_bits») (widthsOf s) root)

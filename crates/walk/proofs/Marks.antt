@@ -5,7 +5,7 @@ use mathlib.Core.List.{List}
 use borrow.Author.Tests.{eq-eqb, ne-eqb}
 use Rattle.memory.specs.Word.{putAt}
 use Rattle.scheme.specs.declared.access.AccessType.{AccessType}
-use Rattle.walker.specs.Descent.{Format}
+use Rattle.scheme.specs.declared.Format.{Format}
 use Rattle.walk.specs.Answer.{markOf, markIn}
 
 module _ (f : Format) (kind : AccessType) (ram : List ℕ) (a w v : ℕ) (is : v ≡ markOf kind w) where

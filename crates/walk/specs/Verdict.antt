@@ -5,7 +5,8 @@ use mathlib.Core.List.{List}
 use mathlib.Core.Bool.{Bool, true, false, not}
 use Rattle.pte.specs.Entry.{permsOf}
 use Rattle.scheme.specs.declared.PagingScheme.{PagingScheme}
-use Rattle.walker.specs.Descent.{Format, seek, descentOf}
+use Rattle.scheme.specs.declared.Format.{Format}
+use Rattle.walker.specs.Descent.{descentIn, descentOf}
 use Rattle.walker.specs.declared.Reason.{Reason}
 use Rattle.walker.specs.declared.Reason.the-variants.{NoRight, Privilege}
 use Rattle.walker.specs.declared.Descent.{Descent}
@@ -41,8 +42,8 @@ judgeOf q d = endJudged q (d .shift) (d .level) (d .end)
 
 -- the walk over a format and a list of widths: the descent for the address, then the judgement
 abbrev pub verdictIn : Format → ℕ → List ℕ → ℕ → List ℕ → Access → Verdict
-verdictIn f offset ws root ram q = judgeOf q (seek f ram (q .vaddr) offset ws 0 root)
+verdictIn f offset ws root ram q = judgeOf q (descentIn f ram (q .vaddr) offset ws root)
 
--- the same of a scheme, in document 01's format
+-- the same of a scheme, in its format
 abbrev pub walkOf : PagingScheme → ℕ → List ℕ → Access → Verdict
 walkOf s root ram q = judgeOf q (descentOf ram root s (q .vaddr))

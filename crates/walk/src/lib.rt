@@ -2,6 +2,7 @@
 use pte::Pte;
 use pte::PtePerms;
 use scheme::AccessType;
+use scheme::Format;
 use scheme::PagingScheme;
 use scheme::PrivMode;
 use scheme::Refusal;
@@ -11,23 +12,22 @@ use walker::Reason;
 ghost use mathlib.Core.Path.{_≡_};
 ghost use mathlib.Core.Bool.{true};
 ghost use Rattle.memory.specs.Word.{readable};
-ghost use Rattle.scheme.specs.Scheme.{validOf};
-ghost use Rattle.walker.specs.Descent.{sv32};
+ghost use Rattle.scheme.specs.Scheme.{validOf, formatOf, Modest};
 ghost use Rattle.walk.specs.Rights.{allows, openTo};
 ghost use Rattle.walk.specs.Verdict.{leafJudged, judgeOf, walkOf};
-ghost use Rattle.walk.specs.Answer.{markOf, markIn, markedBy, physicalOf, resultOf, answerOf, walkReply, walkRam};
+ghost use Rattle.walk.specs.Answer.{markOf, markIn, markedBy, physicalOf, resultOf, wordsTo, answerOf, walkReply, walkRam};
 
 // Who asks: the address, the kind of access and the privilege that goes with it.
 pub struct Access {
-    pub vaddr: u32,
+    pub vaddr: u64,
     pub kind: AccessType,
     pub mode: PrivMode,
 }
 
 // A leaf's word, where it stands, and the shift and level at which it was met.
 pub struct LeafAt {
-    pub raw: u32,
-    pub at: u32,
+    pub raw: u64,
+    pub at: u64,
     pub shift: u32,
     pub level: u8,
 }
@@ -40,8 +40,8 @@ pub enum Verdict {
 
 // What a walk gives: the address, the frame, the page's size in bits, its rights, and the level of the leaf.
 pub struct WalkResult {
-    pub paddr: u32,
-    pub ppn: u32,
+    pub paddr: u64,
+    pub ppn: u64,
     pub page_bits: u32,
     pub perms: PtePerms,
     pub global: bool,
@@ -50,7 +50,7 @@ pub struct WalkResult {
 
 pub struct PageFault {
     pub cause: u32,
-    pub vaddr: u32,
+    pub vaddr: u64,
 }
 
 pub enum Walked {
@@ -142,31 +142,33 @@ fn marked(pte: Pte, kind: AccessType) -> Pte
 }
 
 // Marks the leaf's word in RAM, if a mark was missing.
-fn mark(ram: &mut [u8], at: u32, raw: u32, kind: AccessType)
-    requires { ⌜ readable 32 4 (now ram) at ≡ true ⌝ }
-    ensures { λ _. ⌜ now (ram .exit) ≡ markIn sv32 kind (now (ram .entry)) at raw ⌝ }
+fn mark(f: Format, ram: &mut [u8], at: u64, raw: u64, kind: AccessType)
+    requires { ⌜ Modest f × (readable (f .space) (f .bytes) (now ram) at ≡ true) ⌝ }
+    ensures { λ _. ⌜ now (ram .exit) ≡ markIn f kind (now (ram .entry)) at raw ⌝ }
 {
     let word = marked(Pte::new(raw), kind).raw;
     if word != raw {
-        memory::store32(ram, at, word);
+        memory::store(ram, at, f.bytes, f.space, word);
     }
 }
 
 // The frame's address with its low `page_bits` bits taken from `vaddr`.
-pub fn build_paddr(ppn: u32, page_bits: u32, vaddr: u32) -> u32
-    ensures { λ r. ⌜ r ≡ physicalOf ppn «page_bits» vaddr ⌝ }
+pub fn build_paddr(f: Format, ppn: u64, page_bits: u32, vaddr: u64) -> u64
+    requires { ⌜ Modest f ⌝ }
+    ensures { λ r. ⌜ r ≡ physicalOf f ppn «page_bits» vaddr ⌝ }
 {
-    bits::with_low(ppn << 12, vaddr, page_bits)
+    bits::with_low(walker::frame_of(f, ppn), vaddr, page_bits)
 }
 
 // What an accepted leaf gives.
-fn page(leaf: LeafAt, vaddr: u32) -> WalkResult
-    ensures { λ r. ⌜ r ≡ resultOf vaddr leaf ⌝ }
+fn page(f: Format, leaf: LeafAt, vaddr: u64) -> WalkResult
+    requires { ⌜ Modest f ⌝ }
+    ensures { λ r. ⌜ r ≡ resultOf f vaddr leaf ⌝ }
 {
     let pte = Pte::new(leaf.raw);
     let ppn = pte.ppn();
     WalkResult {
-        paddr: build_paddr(ppn, leaf.shift, vaddr),
+        paddr: build_paddr(f, ppn, leaf.shift, vaddr),
         ppn,
         page_bits: leaf.shift,
         perms: pte.perms(),
@@ -175,25 +177,37 @@ fn page(leaf: LeafAt, vaddr: u32) -> WalkResult
     }
 }
 
+// How many words a walk that faults at a level has asked for: none where the address's top is wrong.
+fn words_to(f: Format, vaddr: u64, level: u8) -> u32
+    ensures { λ r. ⌜ r ≡ wordsTo f vaddr level ⌝ }
+{
+    if walker::top_ok(f, vaddr) {
+        let words = level as u32 + 1;
+        return words;
+    }
+    0
+}
+
 // Walks the tables from the frame `root`, and marks the leaf's word. For callers that know the scheme to be valid.
-pub fn walk_valid(scheme: PagingScheme, root: u32, ram: &mut [u8], access: Access) -> WalkAnswer
+pub fn walk_valid(scheme: PagingScheme, root: u64, ram: &mut [u8], access: Access) -> WalkAnswer
     requires { ⌜ validOf scheme ≡ true ⌝ }
-    ensures { λ r. ⌜ (r ≡ answerOf access (walkOf scheme root (now (ram .entry)) access))
-        × (now (ram .exit) ≡ markedBy sv32 (access .kind) (now (ram .entry)) (walkOf scheme root (now (ram .entry)) access)) ⌝ }
+    ensures { λ r. ⌜ (r ≡ answerOf (formatOf scheme) access (walkOf scheme root (now (ram .entry)) access))
+        × (now (ram .exit) ≡ markedBy (formatOf scheme) (access .kind) (now (ram .entry)) (walkOf scheme root (now (ram .entry)) access)) ⌝ }
 {
     let kind = access.kind;
     let vaddr = access.vaddr;
+    let f = scheme.format();
     let verdict = judge(walker::descend(ram, root, scheme, vaddr), access);
     match verdict {
         Verdict::Fault(_, level) => {
             let cause = kind.page_fault_cause();
-            let words = level as u32 + 1;
+            let words = words_to(f, vaddr, level);
             let answer = Walked::Err(PageFault { cause, vaddr });
             WalkAnswer { words, answer }
         }
         Verdict::Page(leaf) => {
-            mark(ram, leaf.at, leaf.raw, kind);
-            let answer = Walked::Ok(page(leaf, vaddr));
+            mark(f, ram, leaf.at, leaf.raw, kind);
+            let answer = Walked::Ok(page(f, leaf, vaddr));
             let words = leaf.level as u32 + 1;
             WalkAnswer { words, answer }
         }
@@ -201,7 +215,7 @@ pub fn walk_valid(scheme: PagingScheme, root: u32, ram: &mut [u8], access: Acces
 }
 
 // The walk on any scheme: refusal 1 where it is not valid, with RAM as it was.
-pub fn walk(scheme: PagingScheme, root: u32, ram: &mut [u8], access: Access) -> Reply
+pub fn walk(scheme: PagingScheme, root: u64, ram: &mut [u8], access: Access) -> Reply
     ensures { λ r. ⌜ (r ≡ walkReply scheme root (now (ram .entry)) access) × (now (ram .exit) ≡ walkRam scheme root (now (ram .entry)) access) ⌝ }
 {
     if scheme.is_valid() {

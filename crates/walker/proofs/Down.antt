@@ -3,7 +3,8 @@ use Prim.Native.Nat.{ℕ, _+_, _-_}
 use mathlib.Core.Path.{_≡_, refl}
 use mathlib.Core.List.{List, [], _∷_}
 use Rattle.scheme.specs.Scheme.{total}
-use Rattle.walker.specs.Descent.{Format, entryAt, metAt, follow, seek, ended}
+use Rattle.scheme.specs.declared.Format.{Format}
+use Rattle.walker.specs.Descent.{entryAt, metAt, follow, seek, ended}
 use Rattle.walker.specs.declared.Met.{Met}
 use Rattle.walker.specs.declared.End.the-variants.{Stop}
 use Rattle.walker.specs.declared.Reason.the-variants.{OutOfLevels}

@@ -8,7 +8,10 @@ use borrow.Author.Tests.{not-false}
 use Rattle.pte.specs.Entry.{leafOf}
 use lib.ListN.{length}
 use Rattle.memory.specs.Word.{readable, leAt}
-use Rattle.walker.specs.Descent.{Format, entryAt, badIf, leafIs, entryIs, metAt, follow, seek}
+use Rattle.scheme.specs.declared.Format.{Format}
+use Rattle.walker.specs.Descent.{entryAt, badIf, leafIs, entryIs, metAt, follow, seek, ended, topOk, descentIn}
+use Rattle.scheme.specs.Scheme.{shiftOf}
+use Rattle.walker.specs.declared.Reason.the-variants.{WrongTop}
 use Rattle.walker.specs.declared.Reason.{Reason}
 use Rattle.walker.specs.declared.Met.{Met}
 use Rattle.walker.specs.declared.Met.the-variants.{Bad, Table, Leaf}
@@ -29,15 +32,15 @@ no-table false m t x y e = let z : _≡_ {A = ℕ} 0 1 = cc in absurd (omega ari
 
 -- ---- a leaf is the word at its address
 
+leaf-is : (s a w x y : ℕ) → leafIs s a w ≡ Leaf x y → Leaf w a ≡ Leaf x y
+unfolding leafIs
+leaf-is s a w x y e = passed _ _ _ x y e .1
+
+entry-leaf : (s a w x y : ℕ) → entryIs s a w ≡ Leaf x y → Leaf w a ≡ Leaf x y
+unfolding entryIs
+entry-leaf s a w x y e = leaf-is s a w x y (no-table (leafOf w) _ _ x y (passed _ _ _ x y (passed _ _ _ x y (passed _ _ _ x y e .1) .1) .1))
+
 module _ (f : Format) where
-  leaf-is : (s a w x y : ℕ) → leafIs f s a w ≡ Leaf x y → Leaf w a ≡ Leaf x y
-  unfolding leafIs
-  leaf-is s a w x y e = passed _ _ _ x y e .1
-
-  entry-leaf : (s a w x y : ℕ) → entryIs f s a w ≡ Leaf x y → Leaf w a ≡ Leaf x y
-  unfolding entryIs
-  entry-leaf s a w x y e = leaf-is s a w x y (no-table (leafOf w) _ _ x y (passed _ _ _ x y (passed _ _ _ x y e .1) .1))
-
   pub record Read (ram : List ℕ) (w a : ℕ) : Type 0 where
     pub in-ram : readable (f .space) (f .bytes) ram a ≡ true
     pub word : leAt (f .bytes) ram a ≡ w
@@ -83,6 +86,19 @@ module _ (f : Format) where
   -- a page was read where it says
   pub page-read : (ram : List ℕ) (va offset : ℕ) (ws : List ℕ) (level t : ℕ) → OfPage (Read ram) (seek f ram va offset ws level t .end)
   page-read ram va offset = of-page (Read ram) ram va offset (λ t s w x y. met-leaf ram s (entryAt f va t s w) x y)
+
+  -- the same of the whole descent: a wrong top is no page
+  pub whole : (P : ℕ → ℕ → Type 0) (ram : List ℕ) (va offset : ℕ) (ws : List ℕ) (root : ℕ)
+      → OfPage P (seek f ram va offset ws 0 root .end) → OfPage P (descentIn f ram va offset ws root .end)
+  unfolding descentIn
+  whole P ram va offset ws root h = go (topOk f va)
+    where
+      go : (b : Bool) → OfPage P (cond b (seek f ram va offset ws 0 root) (ended (Stop WrongTop) (shiftOf offset ws 0) 0) .end)
+      go true = h
+      go false = tt
+
+  pub whole-read : (ram : List ℕ) (va offset : ℕ) (ws : List ℕ) (root : ℕ) → OfPage (Read ram) (descentIn f ram va offset ws root .end)
+  whole-read ram va offset ws root = whole (Read ram) ram va offset ws root (page-read ram va offset ws 0 root)
 
   -- ---- the walk ends within the levels, so it asks for no more words than there are levels
 

@@ -1,31 +1,22 @@
 -- The descent of the privileged manual's walk ("Virtual Address Translation Process", steps numbered as there), over the format of the
 -- tables and the list of index widths. It only reads, and asks nothing about who asks.
-use Prim.Native.Nat.{ℕ, _+_, _-_, _*_, _%_, _^_}
+use Prim.Native.Nat.{ℕ, _+_, _-_, _*_, _/_, _%_, _^_}
 use mathlib.Core.List.{List, [], _∷_}
-use mathlib.Core.Bool.{Bool, true, false, not, cond}
+use mathlib.Core.Bool.{Bool, true, false, not, cond, _||_}
 use lib.Dec.{eqb}
 use Rattle.bits.specs.Bits.{fieldOf}
-use Rattle.pte.specs.Entry.{validBit, permsOf, leafOf, reserved, ppnIn}
+use Rattle.pte.specs.Entry.{validBit, permsOf, leafOf, reserved, highBits, ppnOf}
 use Rattle.memory.specs.Word.{readable, leAt}
-use Rattle.scheme.specs.Scheme.{total, widthsOf}
+use Rattle.scheme.specs.Scheme.{total, widthsOf, shiftOf, formatOf}
+use Rattle.scheme.specs.declared.Format.{Format}
 use Rattle.scheme.specs.declared.PagingScheme.{PagingScheme}
 use Rattle.walker.specs.declared.Reason.{Reason}
-use Rattle.walker.specs.declared.Reason.the-variants.{Unreadable, Invalid, WriteOnly, Misaligned, OutOfLevels}
+use Rattle.walker.specs.declared.Reason.the-variants.{Unreadable, Invalid, WriteOnly, Misaligned, OutOfLevels, WrongTop, HighBits}
 use Rattle.walker.specs.declared.Met.{Met}
 use Rattle.walker.specs.declared.Met.the-variants.{Bad, Table, Leaf}
 use Rattle.walker.specs.declared.End.{End}
 use Rattle.walker.specs.declared.End.the-variants.{Page, Stop}
 use Rattle.walker.specs.declared.Descent.{Descent}
-
--- what may differ between table formats: an entry's bytes, the bits that an address is kept to, and the PPN's bits
-pub record Format : Type 0 where
-  pub bytes : ℕ
-  pub space : ℕ
-  pub ppnBits : ℕ
-
--- document 01's: words of four bytes, addresses "kept to 32 bits", "the PPN is bits 31-10"
-abbrev pub sv32 : Format
-sv32 = record { bytes = 4; space = 32; ppnBits = 22 }
 
 abbrev pub ended : End → ℕ → ℕ → Descent
 ended e shift level = record { end = e; shift = shift; level = level }
@@ -41,8 +32,27 @@ unfoldable pub badIf : Bool → Reason → Met → Met
 badIf true why next = Bad why
 badIf false why next = next
 
+-- a leaf w at `shift` that stands at a
+unfoldable pub leafIs : ℕ → ℕ → ℕ → Met
+leafIs shift a w =
+    -- step 6: "PPN bits below (shift - 12) are zero", or the superpage is misaligned
+    badIf (not (eqb (ppnOf w % 2 ^ (shift - 12)) 0)) Misaligned
+    (Leaf w a)
+
+-- what the entry w that stands at a is
+unfoldable pub entryIs : ℕ → ℕ → ℕ → Met
+entryIs shift a w =
+    -- step 3: "V clear"
+    badIf (not (validBit w)) Invalid
+    -- step 3: "W set with R clear"
+    (badIf (reserved (permsOf w)) WriteOnly
+    -- "Bits 63-54 set in an entry fault next after W without R"
+    (badIf (highBits w) HighBits
+    -- step 4: "If R, W and X are all clear" the PPN is the next table; "Otherwise it is a leaf"
+    (cond (leafOf w) (leafIs shift a w) (Table (ppnOf w)))))
+
 module _ (f : Format) where
-  -- a frame's address: the PPN "times 4096 and kept to 32 bits"
+  -- a frame's address: the PPN "times 4096 and kept to 32 bits", or to Sv39's 56, which cuts no PPN of 44
   unfoldable pub frame : ℕ → ℕ
   frame ppn = ppn * 2 ^ 12 % 2 ^ f .space
 
@@ -50,30 +60,9 @@ module _ (f : Format) where
   unfoldable pub place : ℕ → ℕ → ℕ
   place t i = (frame t + f .bytes * i) % 2 ^ f .space
 
-  -- the frame of the table that the entry w points to
-  abbrev pub nextTable : ℕ → ℕ
-  nextTable w = ppnIn (f .ppnBits) w
-
   -- where the entry for va stands in the table in the frame t, for the index of `width` bits at `shift`
   unfoldable pub entryAt : ℕ → ℕ → ℕ → ℕ → ℕ
   entryAt va t shift width = place t (fieldOf shift width va)
-
-  -- a leaf w at `shift` that stands at a
-  unfoldable pub leafIs : ℕ → ℕ → ℕ → Met
-  leafIs shift a w =
-      -- step 6: "PPN bits below (shift - 12) are zero", or the superpage is misaligned
-      badIf (not (eqb (ppnIn (f .ppnBits) w % 2 ^ (shift - 12)) 0)) Misaligned
-      (Leaf w a)
-
-  -- what the entry w that stands at a is
-  unfoldable pub entryIs : ℕ → ℕ → ℕ → Met
-  entryIs shift a w =
-      -- step 3: "V clear"
-      badIf (not (validBit w)) Invalid
-      -- step 3: "W set with R clear"
-      (badIf (reserved (permsOf w)) WriteOnly
-      -- step 4: "If R, W and X are all clear" the PPN is the next table; "Otherwise it is a leaf"
-      (cond (leafOf w) (leafIs shift a w) (Table (nextTable w))))
 
   -- what stands at a in RAM
   unfoldable pub metAt : List ℕ → ℕ → ℕ → Met
@@ -90,6 +79,14 @@ module _ (f : Format) where
       follow (metAt ram (offset + total ws) (entryAt va t (offset + total ws) w)) (offset + total ws) level
       (λ (next : ℕ). seek ram va offset ws (level + 1) next)
 
--- the descent for va from the root table's frame, in document 01's format
+-- "address bits 63-39 all equal to bit 38": those from `top` on are all clear, or all set. Of 01's 32-bit addresses they are clear
+unfoldable pub topOk : Format → ℕ → Bool
+topOk f va = eqb (va / 2 ^ f .top) 0 || eqb (va / 2 ^ f .top) (f .ones)
+
+-- the whole descent: the top is "tested as the walk's first step", "10, a wrong address top (level 0)"
+unfoldable pub descentIn : Format → List ℕ → ℕ → ℕ → List ℕ → ℕ → Descent
+descentIn f ram va offset ws root = cond (topOk f va) (seek f ram va offset ws 0 root) (ended (Stop WrongTop) (shiftOf offset ws 0) 0)
+
+-- the descent for va from the root table's frame, in the scheme's format
 unfoldable pub descentOf : List ℕ → ℕ → PagingScheme → ℕ → Descent
-descentOf ram root s va = seek sv32 ram va (s .«offset_bits») (widthsOf s) 0 root
+descentOf ram root s va = descentIn (formatOf s) ram va (s .«offset_bits») (widthsOf s) root

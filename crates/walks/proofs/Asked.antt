@@ -5,7 +5,8 @@ use mathlib.Core.Path.{_≡_}
 use mathlib.Core.List.{List, [], _∷_}
 use lib.ListN.{length}
 use Rattle.scheme.specs.Scheme.{total}
-use Rattle.walker.specs.Descent.{Format, follow, seek}
+use Rattle.scheme.specs.declared.Format.{Format}
+use Rattle.walker.specs.Descent.{follow, seek}
 use Rattle.walker.specs.declared.Met.{Met}
 use Rattle.walker.specs.declared.Met.the-variants.{Bad, Table, Leaf}
 use Rattle.walks.specs.Asked.{below, askedFor}

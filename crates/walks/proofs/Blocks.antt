@@ -1,15 +1,19 @@
 -- Addresses alike from the end's shift up go down the same way. For every format, every list of widths and every RAM.
 use Prim.Native.Nat.{ℕ, _+_, _-_, _/_, _%_, _^_, _≤_, _<_}
-use native.Mathlib.Nat.{le-refl, le-trans}
+use native.Mathlib.Nat.{le-refl, le-trans, lt-of-le-of-lt}
 use native.Mathlib.Omega.{arith}
 use mathlib.Core.Path.{_≡_, refl, sym, ap, _∙_}
 use mathlib.Core.List.{List, [], _∷_}
-use mathlib.Core.Bool.{true}
+use mathlib.Core.Bool.{Bool, true, false, cond}
+use lib.ListN.{drop}
 use lib.Pow.{shr-shr}
-use Rattle.scheme.specs.Scheme.{total, okWidths, widthsOf, validOf}
+use Rattle.scheme.specs.Scheme.{total, widthsOf, validOf, shiftOf, formatOf}
 use Rattle.scheme.specs.declared.PagingScheme.{PagingScheme}
-use Rattle.scheme.proofs.Widths.{valid, ok-low}
-use Rattle.walker.specs.Descent.{Format, sv32, place, entryAt, metAt, follow, seek, descentOf}
+use Rattle.scheme.proofs.Widths.{valid, top-shift}
+use Rattle.scheme.specs.declared.Format.{Format}
+use Rattle.walker.specs.Descent.{place, entryAt, metAt, follow, seek, ended, topOk, descentIn, descentOf}
+use Rattle.walker.specs.declared.Reason.the-variants.{WrongTop}
+use Rattle.walker.specs.declared.End.the-variants.{Stop}
 use Rattle.walker.specs.declared.Met.{Met}
 use Rattle.walker.specs.declared.Met.the-variants.{Bad, Table, Leaf}
 use Rattle.walker.specs.declared.Descent.{Descent}
@@ -84,18 +88,62 @@ module _ (f : Format) (ram : List ℕ) (offset : ℕ) where
             let k : va′ / 2 ^ rest va next .shift ≡ va / 2 ^ rest va next .shift = rw e at h in
             rw (met (alike va′ va _ s (shift-high va ws (level + 1) next) k), e) (ih next k)
 
+-- ---- the same of the whole descent
+
+module _ (f : Format) (ram : List ℕ) (offset : ℕ) (ws : List ℕ) (root : ℕ) where
+  abbrev wrong : Descent
+  wrong = ended (Stop WrongTop) (shiftOf offset ws 0) 0
+
+  -- where the descent ends, by what the top's test says
+  abbrev by : ℕ → Bool → Descent
+  by va b = cond b (seek f ram va offset ws 0 root) wrong
+
+  seek-high : (va : ℕ) → seek f ram va offset ws 0 root .shift ≤ shiftOf offset ws 0
+  unfolding shiftOf
+  seek-high va = go ws
+    where
+      go : (ws : List ℕ) → seek f ram va offset ws 0 root .shift ≤ offset + total (drop 1 ws)
+      go [] = shift-high f ram offset va [] 0 root
+      go (w ∷ ws) = shift-below f ram offset va w ws 0 root
+
+  whole-high : (va : ℕ) → descentIn f ram va offset ws root .shift ≤ shiftOf offset ws 0
+  unfolding descentIn
+  whole-high va = go (topOk f va)
+    where
+      go : (b : Bool) → by va b .shift ≤ shiftOf offset ws 0
+      go true = seek-high va
+      go false = le-refl _
+
+  pub whole-low : (va : ℕ) → offset ≤ descentIn f ram va offset ws root .shift
+  unfolding descentIn shiftOf
+  whole-low va = go (topOk f va)
+    where
+      go : (b : Bool) → offset ≤ by va b .shift
+      go true = shift-low f ram offset va ws 0 root
+      go false = omega arith
+
+  module _ (va va′ : ℕ) (fits : shiftOf offset ws 0 ≤ f .top) where
+    top-same : va′ / 2 ^ descentIn f ram va offset ws root .shift ≡ va / 2 ^ descentIn f ram va offset ws root .shift → topOk f va′ ≡ topOk f va
+    unfolding topOk
+    top-same e = rw (alike va′ va _ (f .top) (le-trans (whole-high va) fits) e)
+
+    pub whole-same : va′ / 2 ^ descentIn f ram va offset ws root .shift ≡ va / 2 ^ descentIn f ram va offset ws root .shift
+        → descentIn f ram va′ offset ws root ≡ descentIn f ram va offset ws root
+    unfolding descentIn
+    whole-same e = ap (by va′) (top-same e) ∙ go (topOk f va) e
+      where
+        go : (b : Bool) → va′ / 2 ^ by va b .shift ≡ va / 2 ^ by va b .shift → by va′ b ≡ by va b
+        go true h = seek-same f ram offset va va′ ws 0 root h
+        go false h = refl
+
 -- ---- the same of a scheme's descent
 
 module _ (ram : List ℕ) (root : ℕ) (s : PagingScheme) (va : ℕ) where
   module _ (ok : validOf s ≡ true) where
     pub descent-low : 12 ≤ descentOf ram root s va .shift
     unfolding descentOf
-    descent-low = le-trans (valid s ok .offset-low) (shift-low sv32 ram _ va (widthsOf s) 0 root)
+    descent-low = le-trans (valid s ok .offset-low) (whole-low (formatOf s) ram _ (widthsOf s) root va)
 
     pub descent-high : descentOf ram root s va .shift < 32
-    unfolding descentOf total seek
-    descent-high = go (widthsOf s) (valid s ok .ok) (valid s ok .all-32)
-      where
-        go : (ws : List ℕ) → okWidths ws ≡ true → s .«offset_bits» + total ws ≡ 32 → seek sv32 ram va (s .«offset_bits») ws 0 root .shift < 32
-        go [] o e = omega (arith, valid s ok .offset-high)
-        go (w ∷ ws) o e = omega (arith, ok-low w ws o, shift-below sv32 ram (s .«offset_bits») va w ws 0 root)
+    unfolding descentOf
+    descent-high = lt-of-le-of-lt (whole-high (formatOf s) ram (s .«offset_bits») (widthsOf s) root va) (top-shift s (valid s ok))

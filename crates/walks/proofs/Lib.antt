@@ -5,3 +5,4 @@ pub mod Verdicts
 pub mod Blocks
 pub mod Asked
 pub mod Claims
+pub mod Sv39

@@ -15,9 +15,10 @@ use Rattle.memory.proofs.Reading.{readable-in}
 use Rattle.memory.proofs.Laws.{length-put, read-same, read-other, word-lt, aligned-apart}
 use Rattle.scheme.specs.declared.access.AccessType.{AccessType}
 use Rattle.scheme.specs.declared.access.AccessType.the-variants.{Fetch, Load, Store}
-use Rattle.walker.specs.Descent.{Format, seek}
+use Rattle.scheme.specs.declared.Format.{Format}
+use Rattle.walker.specs.Descent.{descentIn}
 use Rattle.walker.specs.declared.End.{End}
-use Rattle.walker.proofs.Ends.{Read, OfPage, of-page, met-leaf, met-at}
+use Rattle.walker.proofs.Ends.{Read, OfPage, of-page, whole, met-leaf, met-at}
 use Rattle.walk.specs.Answer.{markOf, markIn, markedBy}
 use Rattle.walk.specs.Verdict.{endJudged, judgeOf, verdictIn}
 use Rattle.walk.specs.declared.Access.{Access}
@@ -119,8 +120,8 @@ module _ (f : Format) (o : Sound f) (ram : List ℕ) (small : Bytes ram) (q : Ac
   pub walk-same : (offset : ℕ) (ws : List ℕ) (root : ℕ) → Same f ram (markedBy f (q .kind) ram (verdictIn f offset ws root ram q))
   unfolding judgeOf
   walk-same offset ws root =
-      marked-same _ _ (seek f ram (q .vaddr) offset ws 0 root .end)
-      (of-page f Marked ram (q .vaddr) offset
+      marked-same _ _ (descentIn f ram (q .vaddr) offset ws root .end)
+      (whole f Marked ram (q .vaddr) offset ws root (of-page f Marked ram (q .vaddr) offset
       (λ t s w x y e. (met-leaf f ram s _ x y e, subst (λ (n : ℕ). f .bytes ∣ n) (met-at f ram s _ x y e) (entry-aligned f o (q .vaddr) t s w)))
-      ws 0 root)
+      ws 0 root))
       _ refl

@@ -5,16 +5,19 @@ use native.Mathlib.Nat.{dvd-add, dvd-mul-right, dvd-mul-left-of-dvd, dvd-mod-iff
 use native.Mathlib.Omega.{arith}
 use mathlib.Core.Path.{_≡_, refl, sym, ap, _∙_}
 use mathlib.Core.List.{List, [], _∷_}
-use mathlib.Core.Bool.{Bool, true, false, cond}
+use mathlib.Core.Bool.{Bool, true, false, not, cond}
 use lib.ListN.{length}
 use lib.Dec.{eqb}
 use lib.Pow.{high, low, field, mod-mod-pow, shr-shr}
 use Rattle.bits.specs.Bits.{bit}
-use Rattle.pte.specs.Entry.{permsOf, ppnIn}
-use Rattle.scheme.specs.Scheme.{total}
+use Rattle.pte.specs.Entry.{permsOf, ppnOf, highBits}
+use Rattle.scheme.specs.Scheme.{total, shiftOf}
 use Rattle.memory.specs.Word.{readable, leAt}
-use Rattle.walker.specs.Descent.{Format, frame, place, entryAt, badIf, leafIs, entryIs, metAt, follow, seek}
+use Rattle.scheme.specs.declared.Format.{Format}
+use Rattle.walker.specs.Descent.{frame, place, entryAt, badIf, leafIs, entryIs, metAt, follow, seek, ended, topOk, descentIn}
 use Rattle.walker.specs.declared.Reason.{Reason}
+use Rattle.walker.specs.declared.Reason.the-variants.{WrongTop}
+use Rattle.walker.specs.declared.End.the-variants.{Stop}
 use Rattle.walker.specs.declared.Met.{Met}
 use Rattle.walker.specs.declared.Met.the-variants.{Bad, Table, Leaf}
 use Rattle.walker.specs.declared.Descent.{Descent}
@@ -45,8 +48,11 @@ module _ (w v : ℕ) (e : plain w ≡ plain v) where
   pub low-same : w % 2 ^ 6 ≡ v % 2 ^ 6
   low-same = sym (low (w / 2 ^ 8) 8 (lows w)) ∙ ap (λ (n : ℕ). n % 2 ^ 8) e ∙ low (v / 2 ^ 8) 8 (lows v)
 
-  pub ppn-same : (f : Format) → ppnIn (f .ppnBits) w ≡ ppnIn (f .ppnBits) v
-  ppn-same f = ap (λ (n : ℕ). n % 2 ^ f .ppnBits) (sym (shr-shr w 8 2) ∙ ap (λ (n : ℕ). n / 2 ^ 2) high-same ∙ shr-shr v 8 2)
+  pub ppn-same : ppnOf w ≡ ppnOf v
+  ppn-same = ap (λ (n : ℕ). n % 2 ^ 44) (sym (shr-shr w 8 2) ∙ ap (λ (n : ℕ). n / 2 ^ 2) high-same ∙ shr-shr v 8 2)
+
+  high-bits-same : highBits w ≡ highBits v
+  high-bits-same = ap (λ (n : ℕ). not (eqb n 0)) (sym (shr-shr w 8 46) ∙ ap (λ (n : ℕ). n / 2 ^ 46) high-same ∙ shr-shr v 8 46)
 
   -- bit n, where j more lie below bit 6
   flag : (j n : ℕ) → j + (1 + n) ≡ 6 → bit n w ≡ bit n v
@@ -68,14 +74,14 @@ push-cond : (b : Bool) (m n : Met) → plainMet (cond b m n) ≡ cond b (plainMe
 push-cond true m n = refl
 push-cond false m n = refl
 
-module _ (f : Format) (s a w v : ℕ) (e : plain w ≡ plain v) where
-  leaf-same : plainMet (leafIs f s a w) ≡ plainMet (leafIs f s a v)
+module _ (s a w v : ℕ) (e : plain w ≡ plain v) where
+  leaf-same : plainMet (leafIs s a w) ≡ plainMet (leafIs s a v)
   unfolding leafIs plainMet
-  leaf-same = simp (push, ppn-same w v e f, e)
+  leaf-same = simp (push, ppn-same w v e, e)
 
-  entry-same : plainMet (entryIs f s a w) ≡ plainMet (entryIs f s a v)
+  entry-same : plainMet (entryIs s a w) ≡ plainMet (entryIs s a v)
   unfolding entryIs plainMet
-  entry-same = simp (push, push-cond, leaf-same, ppn-same w v e f, flag w v e 5 0 refl, flag w v e 4 1 refl, flag w v e 3 2 refl, flag w v e 2 3 refl)
+  entry-same = simp (push, push-cond, leaf-same, ppn-same w v e, high-bits-same w v e, flag w v e 5 0 refl, flag w v e 4 1 refl, flag w v e 3 2 refl, flag w v e 2 3 refl)
 
 -- ---- two RAMs that differ in marks
 
@@ -105,7 +111,7 @@ follow-same (Leaf w a) s level go go′ h = refl
 module _ (f : Format) (o : Sound f) (ram ram′ : List ℕ) (same : Same f ram ram′) where
   met-same : (s a : ℕ) → f .bytes ∣ a → plainMet (metAt f ram s a) ≡ plainMet (metAt f ram′ s a)
   unfolding metAt readable
-  met-same s a d = simp (push, same .long, entry-same f s a (leAt (f .bytes) ram a) (leAt (f .bytes) ram′ a) (same .words a d))
+  met-same s a d = simp (push, same .long, entry-same s a (leAt (f .bytes) ram a) (leAt (f .bytes) ram′ a) (same .words a d))
 
   pub seek-same : (va offset : ℕ) (ws : List ℕ) (level t : ℕ) → plainDescent (seek f ram va offset ws level t) ≡ plainDescent (seek f ram′ va offset ws level t)
   unfolding seek
@@ -116,3 +122,14 @@ module _ (f : Format) (o : Sound f) (ram ram′ : List ℕ) (same : Same f ram r
       ∙ ap (λ (m : Met). follow m s level (λ (n : ℕ). plainDescent (seek f ram va offset ws (level + 1) n))) (met-same s (entryAt f va t s w) (entry-aligned f o va t s w))
       ∙ follow-same (plainMet (metAt f ram′ s (entryAt f va t s w))) s level _ _ (seek-same va offset ws (level + 1))
       ∙ sym (push-follow (metAt f ram′ s (entryAt f va t s w)) s level _)
+
+  pub descent-same : (va offset : ℕ) (ws : List ℕ) (root : ℕ) → plainDescent (descentIn f ram va offset ws root) ≡ plainDescent (descentIn f ram′ va offset ws root)
+  unfolding descentIn
+  descent-same va offset ws root = go (topOk f va)
+    where
+      wrong : Descent
+      wrong = ended (Stop WrongTop) (shiftOf offset ws 0) 0
+
+      go : (b : Bool) → plainDescent (cond b (seek f ram va offset ws 0 root) wrong) ≡ plainDescent (cond b (seek f ram′ va offset ws 0 root) wrong)
+      go true = seek-same va offset ws 0 root
+      go false = refl

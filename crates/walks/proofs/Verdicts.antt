@@ -2,6 +2,8 @@
 use Prim.Native.Nat.{ℕ, _+_}
 use mathlib.Core.Path.{_≡_, refl, sym, ap, _∙_}
 use mathlib.Core.Bool.{Bool, true, false}
+use Rattle.scheme.specs.declared.Format.{Format}
+use Rattle.walker.specs.Descent.{topOk}
 use Rattle.walker.specs.declared.Reason.{Reason}
 use Rattle.walker.specs.declared.Descent.{Descent}
 use Rattle.walker.specs.declared.End.{End}
@@ -35,18 +37,19 @@ verdict-same q d e h =
     ∙ sym (end-plain q (e .shift) (e .level) (e .end))
 
 -- each level on the way down asks for one word
-words-if : (b : Bool) (why : Reason) (level : ℕ) (v : Verdict) → wordsOf v ≡ level + 1 → wordsOf (faultIf b why level v) ≡ level + 1
-unfolding faultIf
-words-if true why level v h = refl
-words-if false why level v h = h
+module _ (f : Format) (q : Access) (right : topOk f (q .vaddr) ≡ true) where
+  words-if : (b : Bool) (why : Reason) (level : ℕ) (v : Verdict) → wordsOf f (q .vaddr) v ≡ level + 1 → wordsOf f (q .vaddr) (faultIf b why level v) ≡ level + 1
+  unfolding faultIf
+  words-if true why level v h = rw right
+  words-if false why level v h = h
 
-words-of : (q : Access) (shift level : ℕ) (e : End) → wordsOf (endJudged q shift level e) ≡ level + 1
-unfolding leafJudged
-words-of q shift level (End.Stop why) = refl
-words-of q shift level (End.Page w a) =
-    let l : LeafAt = record { raw = w; at = a; shift = shift; level = level } in
-    words-if _ _ level _ (words-if _ _ level (Page l) refl)
+  words-of : (shift level : ℕ) (e : End) → wordsOf f (q .vaddr) (endJudged q shift level e) ≡ level + 1
+  unfolding leafJudged
+  words-of shift level (End.Stop why) = rw right
+  words-of shift level (End.Page w a) =
+      let l : LeafAt = record { raw = w; at = a; shift = shift; level = level } in
+      words-if _ _ level _ (words-if _ _ level (Page l) refl)
 
-pub words-at : (q : Access) (d : Descent) → wordsOf (judgeOf q d) ≡ d .level + 1
-unfolding judgeOf
-words-at q d = words-of q (d .shift) (d .level) (d .end)
+  pub words-at : (d : Descent) → wordsOf f (q .vaddr) (judgeOf q d) ≡ d .level + 1
+  unfolding judgeOf
+  words-at d = words-of (d .shift) (d .level) (d .end)

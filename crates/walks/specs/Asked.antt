@@ -1,8 +1,10 @@
 -- The words that a descent asks for, by their places: the same way down as the descent's.
 use Prim.Native.Nat.{ℕ, _+_}
+use mathlib.Core.Bool.{cond}
 use mathlib.Core.List.{List, [], _∷_}
 use Rattle.scheme.specs.Scheme.{total}
-use Rattle.walker.specs.Descent.{Format, entryAt, metAt}
+use Rattle.scheme.specs.declared.Format.{Format}
+use Rattle.walker.specs.Descent.{entryAt, metAt, topOk}
 use Rattle.walker.specs.declared.Met.{Met}
 use Rattle.walker.specs.declared.Met.the-variants.{Bad, Table, Leaf}
 
@@ -18,3 +20,7 @@ askedFor f ram va offset [] t = []
 askedFor f ram va offset (w ∷ ws) t =
     let at = entryAt f va t (offset + total ws) w in
     at ∷ below (metAt f ram (offset + total ws) at) (λ (next : ℕ). askedFor f ram va offset ws next)
+
+-- none where the address's top is wrong
+abbrev pub allAsked : Format → List ℕ → ℕ → ℕ → List ℕ → ℕ → List ℕ
+allAsked f ram va offset ws root = cond (topOk f va) (askedFor f ram va offset ws root) []

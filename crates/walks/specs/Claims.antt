@@ -5,28 +5,30 @@ use mathlib.Core.List.{List, _∷_}
 use mathlib.Core.Bool.{true}
 use lib.ListN.{length}
 use Rattle.memory.specs.Word.{readable, leAt}
-use Rattle.scheme.specs.Scheme.{validOf}
+use Rattle.scheme.specs.Scheme.{validOf, shiftOf, formatOf}
+use Rattle.scheme.specs.declared.Format.{Format}
 use Rattle.scheme.specs.declared.PagingScheme.{PagingScheme}
-use Rattle.walker.specs.Descent.{Format, sv32, seek, descentOf}
+use Rattle.walker.specs.Descent.{topOk, descentIn, descentOf}
 use Rattle.walk.specs.Answer.{wordsOf, markedBy}
 use Rattle.walk.specs.Verdict.{verdictIn, walkOf}
 use Rattle.walk.specs.declared.Access.{Access}
 use Rattle.walk.specs.declared.LeafAt.{LeafAt}
 use Rattle.walk.specs.declared.Verdict.the-variants.{Page}
-use Rattle.walks.specs.Asked.{askedFor}
+use Rattle.walks.specs.Asked.{allAsked}
 use Rattle.walks.specs.Plain.{plainDescent, plainVerdict, Bytes, Sound}
 
--- a walk asks for at least one word, and "never more than the levels"
+-- a walk asks for "never more than the levels", and for at least one word where the address's top is right
 abbrev pub WordsWithin : Type 0
 WordsWithin =
     (s : PagingScheme) (root : ℕ) (ram : List ℕ) (q : Access) → validOf s ≡ true
-    → (1 ≤ wordsOf (walkOf s root ram q)) × (wordsOf (walkOf s root ram q) ≤ s .levels)
+    → let n = wordsOf (formatOf s) (q .vaddr) (walkOf s root ram q) in
+    (topOk (formatOf s) (q .vaddr) ≡ true → 1 ≤ n) × (n ≤ s .levels)
 
 -- "the answer tells how many words were asked for"
 abbrev pub WordsAsked : Type 0
 WordsAsked =
     (f : Format) (offset w : ℕ) (ws : List ℕ) (root : ℕ) (ram : List ℕ) (q : Access)
-    → wordsOf (verdictIn f offset (w ∷ ws) root ram q) ≡ length (askedFor f ram (q .vaddr) offset (w ∷ ws) root)
+    → wordsOf f (q .vaddr) (verdictIn f offset (w ∷ ws) root ram q) ≡ length (allAsked f ram (q .vaddr) offset (w ∷ ws) root)
 
 -- an accepted leaf was readable, and is the word in RAM
 abbrev pub LeafIsRead : Type 0
@@ -50,15 +52,16 @@ MarksKeepDescents =
     (f : Format) → Sound f → (ram : List ℕ) → Bytes ram
     → (offset : ℕ) (ws : List ℕ) (root : ℕ) (q : Access)
     → (offset′ : ℕ) (ws′ : List ℕ) (root′ va′ : ℕ)
-    → plainDescent (seek f ram va′ offset′ ws′ 0 root′)
-    ≡ plainDescent (seek f (markedBy f (q .kind) ram (verdictIn f offset ws root ram q)) va′ offset′ ws′ 0 root′)
+    → plainDescent (descentIn f ram va′ offset′ ws′ root′)
+    ≡ plainDescent (descentIn f (markedBy f (q .kind) ram (verdictIn f offset ws root ram q)) va′ offset′ ws′ root′)
 
--- a page and a hole are blocks: every address alike from the end's shift up comes to the same leaf, or the same stop
+-- a page and a hole are blocks, where the top level's shift is not above the top: every address alike from the end's shift up comes to the same leaf, or the same stop
 abbrev pub BlocksEndAlike : Type 0
 BlocksEndAlike =
     (f : Format) (offset : ℕ) (ws : List ℕ) (root : ℕ) (ram : List ℕ) (va va′ : ℕ)
-    → va′ / 2 ^ seek f ram va offset ws 0 root .shift ≡ va / 2 ^ seek f ram va offset ws 0 root .shift
-    → seek f ram va′ offset ws 0 root ≡ seek f ram va offset ws 0 root
+    → shiftOf offset ws 0 ≤ f .top
+    → va′ / 2 ^ descentIn f ram va offset ws root .shift ≡ va / 2 ^ descentIn f ram va offset ws root .shift
+    → descentIn f ram va′ offset ws root ≡ descentIn f ram va offset ws root
 
 -- and of a valid scheme such a block has 4 KiB or more, and less than the whole of the addresses
 abbrev pub BlockSizes : Type 0
@@ -66,6 +69,6 @@ BlockSizes =
     (s : PagingScheme) (root : ℕ) (ram : List ℕ) (va : ℕ) → validOf s ≡ true
     → (12 ≤ descentOf ram root s va .shift) × (descentOf ram root s va .shift < 32)
 
--- document 01's format is one of those that the claims on marks speak of
+-- every scheme's format is one of those that the claims on marks speak of
 abbrev pub OursIsSound : Type 0
-OursIsSound = Sound sv32
+OursIsSound = (s : PagingScheme) → Sound (formatOf s)

@@ -2,7 +2,8 @@
 use Prim.Native.Nat.{ℕ, _+_, _*_, _/_, _%_, _^_, _<_, _∣_}
 use mathlib.Core.List.{List}
 use lib.ListN.{getD}
-use Rattle.walker.specs.Descent.{Format, ended}
+use Rattle.scheme.specs.declared.Format.{Format}
+use Rattle.walker.specs.Descent.{ended}
 use Rattle.walker.specs.declared.Descent.{Descent}
 use Rattle.walker.specs.declared.End.{End}
 use Rattle.walker.specs.declared.End.the-variants as End

@@ -23,7 +23,7 @@ fn put_digit(out: &mut [u8], at: usize, d: u64) -> usize
 }
 
 // From the last digit to the first.
-pub fn put_hex(out: &mut [u8], at: usize, x: u32) -> usize
+pub fn put_hex(out: &mut [u8], at: usize, x: u64) -> usize
     requires { ⌜ at + 8 ≤ length (now out) ⌝ }
     ensures { λ r. ⌜ Put 8 (now (out .entry)) (now (out .exit)) at r (hexOf x) ⌝ }
 {

@@ -2,8 +2,8 @@ use borrow.Author.Needs.{needs}
 use Rattle.access.proofs.passes.Statement.{statement}
 use Rattle.access.proofs.passes.Tie as tie
 
-mode-requires : tie.Need-mode-requires
-mode-requires c κs = search needs
+satp-mode-requires : tie.Need-satp-mode-requires
+satp-mode-requires c κs = search needs
 
 is-bare-requires : tie.Need-is-bare-requires
 is-bare-requires c κs = search needs
@@ -12,7 +12,7 @@ is-machine-requires : tie.Need-is-machine-requires
 is-machine-requires c κs = search needs
 
 returns : tie.Need-returns
-returns c = rw (c .before .is-bare .ensures, c .before .before .mode .ensures, c .is-machine .ensures)
+returns c = rw (c .before .is-bare .ensures, c .before .before .satp-mode .ensures, c .is-machine .ensures)
 
 pub passes-spec : {M : Type 1} → statement M
-passes-spec = tie.close (tie.spec mode-requires is-bare-requires is-machine-requires returns)
+passes-spec = tie.close (tie.spec satp-mode-requires is-bare-requires is-machine-requires returns)

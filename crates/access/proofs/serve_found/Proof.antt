@@ -1,7 +1,11 @@
 -- `serve_found`: a hit where right and privilege are there, else a fault on a found entry.
-use Prim.Native.Nat.{ℕ}
-use mathlib.Core.Path.{_≡_, sym, ap, ap₂, _∙_}
+use Prim.Native.Nat.{ℕ, _+_}
+use mathlib.Core.Path.{_≡_, sym, ap, ap₂, subst⁻¹, _∙_}
 use mathlib.Core.Bool.{_&&_}
+use Rattle.scheme.specs.Scheme.{Modest}
+use Rattle.scheme.specs.declared.Format.{Format}
+use Rattle.scheme.proofs.Levels.{modest}
+use Rattle.walk.specs.Answer.{physicalOf}
 use Rattle.access.specs.Translate.{okAt, entryPermits}
 use Rattle.state.specs.declared.Mmu.{Mmu}
 use Rattle.access.specs.declared.Answer.{Answer}
@@ -33,8 +37,11 @@ cast-page-bits-2 c = search needs
 add-page-bits : tie.Need-add-page-bits
 add-page-bits c = search needs
 
+format-requires : tie.Need-format-requires
+format-requires c κs = search needs
+
 build-paddr-requires : tie.Need-build-paddr-requires
-build-paddr-requires c κs = search needs
+build-paddr-requires c κs = subst⁻¹ Modest (c .format .ensures) (modest _)
 
 ok-at-requires : tie.Need-ok-at-requires
 ok-at-requires c κs = search needs
@@ -44,10 +51,10 @@ counted-requires c κs = search needs
 
 returns : tie.Need-returns
 returns c =
-    let o = c .before .before .before .before .before .before in
+    let o = c .before .before .before .before .before .before .before in
     let a = o .before .before .before .args in
-    ap₂ served (c .before .ok-at .ensures ∙ ap (λ (n : ℕ). okAt 0 n (a .m .tlb .config .«hit_latency»)) (c .before .before .build-paddr .ensures)) (c .counted .ensures)
-    ∙ found-hit (a .m) (a .q) (a .e) (sym (permitted o) ∙ c .before .before .before .before .before .if1 .taken)
+    ap₂ served (c .before .ok-at .ensures ∙ ap (λ (n : ℕ). okAt 0 n (a .m .tlb .config .«hit_latency»)) (c .before .before .build-paddr .ensures ∙ ap (λ (f : Format). physicalOf f (a .e .ppn) (a .m .scheme .«offset_bits» + a .e .«mask_bits») (a .q .vaddr)) (c .before .before .before .format .ensures))) (c .counted .ensures)
+    ∙ found-hit (a .m) (a .q) (a .e) (sym (permitted o) ∙ c .before .before .before .before .before .before .if1 .taken)
 
 fault-requires : tie.Need-fault-requires
 fault-requires c κs = search needs
@@ -71,6 +78,7 @@ serve-found-spec =
     cast-page-bits
     cast-page-bits-2
     add-page-bits
+    format-requires
     build-paddr-requires
     ok-at-requires
     counted-requires

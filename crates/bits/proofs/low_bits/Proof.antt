@@ -14,14 +14,14 @@ returns c =
     (whole (a .k) (c .if1 .taken) (a .x) (omega arith), whole-lt (a .k) (c .if1 .taken) (a .x) (omega arith))
 
 -- the second way has fewer bits than the word
-few : (c : tie.Else1) → c .before .args .k < 32
+few : (c : tie.Else1) → c .before .args .k < 64
 few c = omega arith
 
 shl-result : tie.Need-shl-result
 shl-result c = search needs
 
 sub-result : tie.Need-sub-result
-sub-result c = omega (arith, one-shl (c .before .args .k) (few c), pow-pos (c .before .args .k))
+sub-result c = omega (arith, one-shl 64 (c .before .args .k) (few c), pow-pos (c .before .args .k))
 
 returns-2 : tie.Need-returns-2
 returns-2 c =

@@ -24,8 +24,8 @@ low-bits-requires c κs = search needs
 returns-2 : tie.Need-returns-2
 returns-2 c =
     let a = c .before .before .args in
-    let x<32 : a .x < 2 ^ 32 = omega arith in
-    join (a .x) (c .low-bits .result) (a .k) x<32 (c .low-bits .ensures .1)
+    let x<64 : a .x < 2 ^ 64 = omega arith in
+    join (a .x) (c .low-bits .result) (a .k) x<64 (c .low-bits .ensures .1)
     ∙ ap (λ (n : ℕ). a .x / 2 ^ a .k * 2 ^ a .k + n) (c .low-bits .ensures .0)
 
 pub with-low-spec : {M : Type 1} → statement M

@@ -7,6 +7,9 @@ use Rattle.bundle.proofs.event_at.Tie as tie
 u32-at-requires : tie.Need-u32-at-requires
 u32-at-requires c κs = search needs
 
+cast-vaddr : tie.Need-cast-vaddr
+cast-vaddr c = search needs
+
 add-access-from : tie.Need-add-access-from
 add-access-from c = search needs
 
@@ -54,6 +57,7 @@ event-at-spec =
     tie.close
     (tie.spec
     u32-at-requires
+    cast-vaddr
     add-access-from
     shared-slice-read-access-from
     access-from-requires

@@ -19,6 +19,9 @@ add-u32-at c = search needs
 u32-at-requires : tie.Need-u32-at-requires
 u32-at-requires c κs = search needs
 
+cast-satp : tie.Need-cast-satp
+cast-satp c = search needs
+
 returns : tie.Need-returns
 returns c =
     rw (
@@ -38,4 +41,5 @@ settings-at-spec =
     shared-slice-read-switches
     add-u32-at
     u32-at-requires
+    cast-satp
     returns)

@@ -24,9 +24,6 @@ cast-put-le-2 c = search needs
 put-le-requires-2 : tie.Need-put-le-requires-2
 put-le-requires-2 c κs = search needs
 
-cast-put-le-3 : tie.Need-cast-put-le-3
-cast-put-le-3 c = search needs
-
 put-le-requires-3 : tie.Need-put-le-requires-3
 put-le-requires-3 c κs = search needs
 
@@ -51,9 +48,8 @@ put-walk-spec =
     told-place-requires
     cast-put-le
     put-le-requires
-    cast-put-le-2
     put-le-requires-2
-    cast-put-le-3
+    cast-put-le-2
     put-le-requires-3
     same-length
     returns)

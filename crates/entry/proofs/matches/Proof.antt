@@ -4,15 +4,15 @@ use borrow.Author.Needs.{needs}
 use Rattle.entry.proofs.matches.Statement.{statement}
 use Rattle.entry.proofs.matches.Tie as tie
 
-shr32-requires : tie.Need-shr32-requires
-shr32-requires c κs = search needs
+shr64-requires : tie.Need-shr64-requires
+shr64-requires c κs = search needs
 
-shr32-requires-2 : tie.Need-shr32-requires-2
-shr32-requires-2 c κs = search needs
+shr64-requires-2 : tie.Need-shr64-requires-2
+shr64-requires-2 c κs = search needs
 
 returns : tie.Need-returns
 unfolding matchesOf
-returns c = rw (c .before .before .before .before .shr32 .ensures, c .before .before .before .shr322 .ensures)
+returns c = rw (c .before .before .before .before .shr64 .ensures, c .before .before .before .shr642 .ensures)
 
 pub matches-spec : {M : Type 1} → statement M
-matches-spec = tie.close (tie.spec shr32-requires shr32-requires-2 returns)
+matches-spec = tie.close (tie.spec shr64-requires shr64-requires-2 returns)

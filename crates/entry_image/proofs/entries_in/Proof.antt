@@ -13,7 +13,7 @@ use Rattle.entry_image.proofs.entries_in.Tie as tie
 
 abbrev Inv-loop : tie.InvT-loop
 Inv-loop s at es₀ p₀ i₀ es p i =
-    (i ≤ 128) × (p ≡ at + 17 * i) × (sets es i (entriesRead s p (128 - i)) ≡ entriesRead s at 128)
+    (i ≤ 128) × (p ≡ at + 25 * i) × (sets es i (entriesRead s p (128 - i)) ≡ entriesRead s at 128)
 
 abbrev μ-loop : tie.MeasureT-loop
 μ-loop s at es₀ p₀ i₀ es p i = 128 - i

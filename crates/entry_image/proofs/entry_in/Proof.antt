@@ -7,20 +7,20 @@ use borrow.Author.Needs.{needs}
 use Rattle.entry_image.proofs.entry_in.Statement.{statement}
 use Rattle.entry_image.proofs.entry_in.Tie as tie
 
-u32-at-requires : tie.Need-u32-at-requires
-u32-at-requires c κs = search needs
+u64-at-requires : tie.Need-u64-at-requires
+u64-at-requires c κs = search needs
+
+add-u64-at : tie.Need-add-u64-at
+add-u64-at c = search needs
+
+u64-at-requires-2 : tie.Need-u64-at-requires-2
+u64-at-requires-2 c κs = search needs
 
 add-u32-at : tie.Need-add-u32-at
 add-u32-at c = search needs
 
-u32-at-requires-2 : tie.Need-u32-at-requires-2
-u32-at-requires-2 c κs = search needs
-
-add-u32-at-2 : tie.Need-add-u32-at-2
-add-u32-at-2 c = search needs
-
-u32-at-requires-3 : tie.Need-u32-at-requires-3
-u32-at-requires-3 c κs = search needs
+u32-at-requires : tie.Need-u32-at-requires
+u32-at-requires c κs = search needs
 
 add-u16-at : tie.Need-add-u16-at
 add-u16-at c = search needs
@@ -46,7 +46,7 @@ shared-slice-read-byte c = search needs
 cast-byte : tie.Need-cast-byte
 cast-byte c =
     let s = c .before .before .before .before .before .before .before in
-    omega (arith, c .shared-slice-known3 .given (s .args .at + 15))
+    omega (arith, c .shared-slice-known3 .given (s .args .at + 23))
 
 add-referenced : tie.Need-add-referenced
 add-referenced c = search needs
@@ -78,9 +78,9 @@ returns c =
     let p = c .before .before .before .before in
     let a = p .before .before .before .before .before in
     rw (
-      a .before .before .before .u32-at .ensures,
-      a .before .before .u32-at2 .ensures,
-      a .before .u32-at3 .ensures,
+      a .before .before .before .u64-at .ensures,
+      a .before .before .u64-at2 .ensures,
+      a .before .u32-at .ensures,
       a .u16-at .ensures .0,
       p .perms .ensures,
       c .before .before .before .valid .ensures,
@@ -95,11 +95,11 @@ pub entry-in-spec : {M : Type 1} → statement M
 entry-in-spec =
     tie.close
     (tie.spec
-    u32-at-requires
+    u64-at-requires
+    add-u64-at
+    u64-at-requires-2
     add-u32-at
-    u32-at-requires-2
-    add-u32-at-2
-    u32-at-requires-3
+    u32-at-requires
     add-u16-at
     u16-at-requires
     cast-asid

@@ -11,7 +11,7 @@ use Rattle.entry_image.proofs.put_entries.Statement.{statement}
 use Rattle.entry_image.proofs.put_entries.Tie as tie
 
 abbrev Inv-loop : tie.InvT-loop
-Inv-loop out₀ at es next₀ i₀ out next i = (i ≤ 128) × Going.Going (17 * i) out₀ out at next (entriesImage (drop i es)) (entriesImage es)
+Inv-loop out₀ at es next₀ i₀ out next i = (i ≤ 128) × Going.Going (25 * i) out₀ out at next (entriesImage (drop i es)) (entriesImage es)
 
 abbrev μ-loop : tie.MeasureT-loop
 μ-loop out₀ at es next₀ i₀ out next i = 128 - i

@@ -24,23 +24,17 @@ cast-put-le-2 c = search needs
 put-le-requires-2 : tie.Need-put-le-requires-2
 put-le-requires-2 c κs = search needs
 
-cast-put-le-3 : tie.Need-cast-put-le-3
-cast-put-le-3 c = search needs
-
 put-le-requires-3 : tie.Need-put-le-requires-3
 put-le-requires-3 c κs = search needs
-
-cast-put-le-4 : tie.Need-cast-put-le-4
-cast-put-le-4 c = search needs
 
 put-le-requires-4 : tie.Need-put-le-requires-4
 put-le-requires-4 c κs =
     let f = c .before .before .before .before in
     let b = f .before .before .before .before .before in
-    let a = b .before .before .before .before .before in
+    let a = b .before .before .before .before in
     omega (
       arith,
-      a .before .before .before .before .before .before .pre,
+      a .before .before .before .before .before .pre,
       a .put-le .ensures .room,
       b .put-le2 .ensures .room,
       f .put-le3 .ensures .room,
@@ -57,10 +51,10 @@ put-bytes-requires c κs =
     let d = c .before .before .before .before in
     let f = d .before .before .before .before .before in
     let b = f .before .before .before .before .before in
-    let a = b .before .before .before .before .before in
+    let a = b .before .before .before .before in
     omega (
       arith,
-      a .before .before .before .before .before .before .pre,
+      a .before .before .before .before .before .pre,
       a .put-le .ensures .room,
       b .put-le2 .ensures .room,
       f .put-le3 .ensures .room,
@@ -81,8 +75,8 @@ returns c =
     let d = e .before .before .before .before .before in
     let f = d .before .before .before .before .before in
     let b = f .before .before .before .before .before in
-    let a = b .before .before .before .before .before in
-    let g = a .before .before .before in
+    let a = b .before .before .before .before in
+    let g = a .before .before in
     rw (← g .flag .ensures .0, ← g .before .entry-flags .ensures)
     (then (a .put-le .ensures) (then (b .put-le2 .ensures) (then (f .put-le3 .ensures) (then (d .put-le4 .ensures) (e .put-bytes .ensures)))))
 
@@ -92,13 +86,11 @@ put-entry-spec =
     (tie.spec
     entry-flags-requires
     flag-requires
-    cast-put-le
     put-le-requires
-    cast-put-le-2
     put-le-requires-2
-    cast-put-le-3
+    cast-put-le
     put-le-requires-3
-    cast-put-le-4
+    cast-put-le-2
     put-le-requires-4
     slice-aggregate-put-bytes
     put-bytes-requires

@@ -11,7 +11,7 @@ use Rattle.entry_image.proofs.refs_ok.Statement.{statement}
 use Rattle.entry_image.proofs.refs_ok.Tie as tie
 
 abbrev Inv-loop : tie.InvT-loop
-Inv-loop s at ok₀ p₀ left₀ ok p left = (p + 17 * left ≤ length s) × (ok && refsOk s p left ≡ refsOk s at 128)
+Inv-loop s at ok₀ p₀ left₀ ok p left = (p + 25 * left ≤ length s) × (ok && refsOk s p left ≡ refsOk s at 128)
 
 abbrev μ-loop : tie.MeasureT-loop
 μ-loop s at ok₀ p₀ left₀ ok p left = left

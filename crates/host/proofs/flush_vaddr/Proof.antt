@@ -8,7 +8,7 @@ use Rattle.mmu.proofs.flush_vaddr.Symbol as core-def
 use Rattle.mmu.proofs.flush_vaddr.Symbol.{name as #core}
 use Rattle.mmu.proofs.flush_vaddr.Met as core-thm
 use Rattle.host.proofs.Types.{mmu, said, kept-both}
-use Rattle.lent.proofs.Value.{u32-value}
+use Rattle.lent.proofs.Value.{u64-value}
 use Rattle.lent.proofs.Lent1.{Core, meets}
 use Rattle.host.proofs.flush_vaddr.Key.{name as #flush-vaddr}
 use Rattle.host.proofs.flush_vaddr as flush-vaddr
@@ -20,5 +20,5 @@ unfolding code.routine tablesOf
 flush-vaddr-spec 𝓤 H 𝓜 𝓖 𝓡 =
     entered 𝓤 H (tripleOf 𝓤 H (𝓖 .A) flush-vaddr.signature (flush-vaddr.spec 𝓤 H (𝓖 .A) (𝓜 .mem) (𝓡 .run)))
     (tables 𝓤 H 𝓜 𝓡 code.env .C) (tables 𝓤 H 𝓜 𝓡 code.env .Λ) #flush-vaddr code.function (code.unfolded 𝓤 H 𝓜 𝓡)
-    (meets mmu u32-value said kept-both flushVaddrOf #core 𝓤 H (𝓖 .A) (givenOf 𝓤 H 𝓜 𝓖) (tablesOf 𝓤 H 𝓜 (tables 𝓤 H 𝓜 𝓡 code.env))
-    (cited 𝓤 H (Core mmu u32-value said kept-both flushVaddrOf #core 𝓤 H (𝓖 .A)) 𝓜 𝓡 code.env #core core-def.routine code.calls-mmu·flush-vaddr (core-thm.met 𝓤 H 𝓜 𝓖 𝓡)))
+    (meets mmu u64-value said kept-both flushVaddrOf #core 𝓤 H (𝓖 .A) (givenOf 𝓤 H 𝓜 𝓖) (tablesOf 𝓤 H 𝓜 (tables 𝓤 H 𝓜 𝓡 code.env))
+    (cited 𝓤 H (Core mmu u64-value said kept-both flushVaddrOf #core 𝓤 H (𝓖 .A)) 𝓜 𝓡 code.env #core core-def.routine code.calls-mmu·flush-vaddr (core-thm.met 𝓤 H 𝓜 𝓖 𝓡)))

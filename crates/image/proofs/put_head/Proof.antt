@@ -30,13 +30,10 @@ cast-put-le-2 c = search needs
 put-le-requires-2 : tie.Need-put-le-requires-2
 put-le-requires-2 c κs = search needs
 
-cast-put-le-3 : tie.Need-cast-put-le-3
-cast-put-le-3 c = search needs
-
 put-le-requires-3 : tie.Need-put-le-requires-3
 put-le-requires-3 c κs =
     let f = c .before .before .before .before in
-    let b = f .before .before .before .before .before in
+    let b = f .before .before .before .before in
     let a = b .before .before .before .before .before in
     let s = a .before .before .before .before .before .before .before .before .before .before .before in
     omega (
@@ -58,7 +55,7 @@ put-words-requires : tie.Need-put-words-requires
 put-words-requires c κs =
     let d = c .before .before .before .before in
     let f = d .before .before .before .before .before in
-    let b = f .before .before .before .before .before in
+    let b = f .before .before .before .before in
     let a = b .before .before .before .before .before in
     let s = a .before .before .before .before .before .before .before .before .before .before .before in
     omega (
@@ -84,7 +81,7 @@ returns c =
     let e = c .before .before in
     let d = e .before .before .before .before .before in
     let f = d .before .before .before .before .before in
-    let b = f .before .before .before .before .before in
+    let b = f .before .before .before .before in
     let a = b .before .before .before .before .before in
     let g = a .before .before .before in
     let front = as-text (rw (g .before .switches .ensures) at (g .front .ensures)) (b .put-bytes .ensures) in
@@ -101,9 +98,8 @@ put-head-spec =
     put-le-requires
     slice-aggregate-put-bytes
     put-bytes-requires
-    cast-put-le-2
     put-le-requires-2
-    cast-put-le-3
+    cast-put-le-2
     put-le-requires-3
     slice-aggregate-put-words
     put-words-requires

@@ -11,8 +11,8 @@ tlb-in-requires c κs = search needs
 scheme-at-requires : tie.Need-scheme-at-requires
 scheme-at-requires c κs = search needs
 
-u32-at-requires : tie.Need-u32-at-requires
-u32-at-requires c κs = search needs
+u64-at-requires : tie.Need-u64-at-requires
+u64-at-requires c κs = search needs
 
 new-requires : tie.Need-new-requires
 new-requires c κs = search needs
@@ -28,7 +28,7 @@ returns c =
       a .before .before .tlb-in .ensures,
       a .before .scheme-at .ensures,
       c .before .new .ensures,
-      a .u32-at .ensures,
+      a .u64-at .ensures,
       test-bit 0,
       test-bit 1,
       test-bit 2,
@@ -40,7 +40,7 @@ mmu-in-spec =
     (tie.spec
     tlb-in-requires
     scheme-at-requires
-    u32-at-requires
+    u64-at-requires
     new-requires
     shared-slice-read-switches
     returns)

@@ -28,7 +28,7 @@ use Rattle.host.proofs.reconfigure.Symbol as def₄
 use Rattle.host.proofs.reconfigure.Symbol.{name as #f₄}
 use Rattle.host.proofs.reconfigure.Met as thm₄
 use Rattle.host.proofs.Types.{mmu, access, scheme, config, answer, said, kept-both, served-both}
-use Rattle.lent.proofs.Value.{u32-value}
+use Rattle.lent.proofs.Value.{u64-value}
 use Rattle.lent.proofs.Lends.{Called0, Called1, CalledRam1}
 use Rattle.lending.specs.Session.{sessionOf}
 use Rattle.lending.proofs.Lending.{Chain, meets}
@@ -56,9 +56,9 @@ unfolding code.routine tablesOf sessionOf
 run-session-spec 𝓤 H 𝓜 𝓖 𝓡 =
     entered 𝓤 H (tripleOf 𝓤 H (𝓖 .A) run-session.signature (run-session.spec 𝓤 H (𝓖 .A) (𝓜 .mem) (𝓡 .run)))
     (tables 𝓤 H 𝓜 𝓡 code.env .C) (tables 𝓤 H 𝓜 𝓡 code.env .Λ) #run-session code.function (code.unfolded 𝓤 H 𝓜 𝓡)
-    (meets mmu access u32-value scheme config answer said served-both kept-both session translateOf translateRam flushVaddrOf flushOf setSchemeOf reconfigureOf #core #core₁ #core₂ #core₃ #core₄ #f #f₁ #f₂ #f₃ #f₄ 𝓤 H (𝓖 .A) (givenOf 𝓤 H 𝓜 𝓖) (tablesOf 𝓤 H 𝓜 (tables 𝓤 H 𝓜 𝓡 code.env))
+    (meets mmu access u64-value scheme config answer said served-both kept-both session translateOf translateRam flushVaddrOf flushOf setSchemeOf reconfigureOf #core #core₁ #core₂ #core₃ #core₄ #f #f₁ #f₂ #f₃ #f₄ 𝓤 H (𝓖 .A) (givenOf 𝓤 H 𝓜 𝓖) (tablesOf 𝓤 H 𝓜 (tables 𝓤 H 𝓜 𝓡 code.env))
     (cited 𝓤 H (CalledRam1 mmu access answer served-both translateOf translateRam #core #f 𝓤 H (𝓖 .A)) 𝓜 𝓡 code.env #f def.routine code.calls-host·translate (thm.met 𝓤 H 𝓜 𝓖 𝓡))
-    (cited 𝓤 H (Called1 mmu u32-value said kept-both flushVaddrOf #core₁ #f₁ 𝓤 H (𝓖 .A)) 𝓜 𝓡 code.env #f₁ def₁.routine code.calls-host·flush-vaddr (thm₁.met 𝓤 H 𝓜 𝓖 𝓡))
+    (cited 𝓤 H (Called1 mmu u64-value said kept-both flushVaddrOf #core₁ #f₁ 𝓤 H (𝓖 .A)) 𝓜 𝓡 code.env #f₁ def₁.routine code.calls-host·flush-vaddr (thm₁.met 𝓤 H 𝓜 𝓖 𝓡))
     (cited 𝓤 H (Called0 mmu said kept-both flushOf #core₂ #f₂ 𝓤 H (𝓖 .A)) 𝓜 𝓡 code.env #f₂ def₂.routine code.calls-host·flush (thm₂.met 𝓤 H 𝓜 𝓖 𝓡))
     (cited 𝓤 H (Called1 mmu scheme said kept-both setSchemeOf #core₃ #f₃ 𝓤 H (𝓖 .A)) 𝓜 𝓡 code.env #f₃ def₃.routine code.calls-host·set-scheme (thm₃.met 𝓤 H 𝓜 𝓖 𝓡))
     (cited 𝓤 H (Called1 mmu config said kept-both reconfigureOf #core₄ #f₄ 𝓤 H (𝓖 .A)) 𝓜 𝓡 code.env #f₄ def₄.routine code.calls-host·reconfigure (thm₄.met 𝓤 H 𝓜 𝓖 𝓡)))

@@ -1,16 +1,24 @@
--- `is_readable` is the definition, test for test.
-use mathlib.Core.Path.{refl}
-use Rattle.memory.specs.Word.{readable}
+-- `is_readable`: the tests of the definition, with the sum made only where it cannot wrap.
+use native.Mathlib.Omega.{arith}
+use Rattle.memory.proofs.Reading.{past, within}
 use borrow.Author.Needs.{needs}
 use Rattle.memory.proofs.is_readable.Statement.{statement}
 use Rattle.memory.proofs.is_readable.Tie as tie
 
+returns : tie.Need-returns
+returns c = past _ _ _ _ (omega arith)
+
+returns-2 : tie.Need-returns-2
+returns-2 c = past _ _ _ _ (omega arith)
+
 add-end : tie.Need-add-end
 add-end c = search needs
 
-returns : tie.Need-returns
-unfolding readable
-returns c = refl
+shl-limit : tie.Need-shl-limit
+shl-limit c = search needs
+
+returns-3 : tie.Need-returns-3
+returns-3 c = within _ _ _ _ (omega arith) (c .before .before .pre)
 
 pub is-readable-spec : {M : Type 1} → statement M
-is-readable-spec = tie.close (tie.spec add-end returns)
+is-readable-spec = tie.close (tie.spec returns returns-2 add-end shl-limit returns-3)

@@ -20,9 +20,6 @@ returns c = search needs
 returns-2 : tie.Need-returns-2
 returns-2 c = search needs
 
-cast-size : tie.Need-cast-size
-cast-size c = search needs
-
 array-borrow-prefix-file : tie.Need-array-borrow-prefix-file
 array-borrow-prefix-file c = search needs
 
@@ -44,7 +41,6 @@ replay-next-spec =
     enum-told
     returns
     returns-2
-    cast-size
     array-borrow-prefix-file
     slice-aggregate-replay-sized
     replay-sized-requires

@@ -9,11 +9,11 @@ returns : tie.Need-returns
 unfolding consultOf
 returns c = rw (not-true (c .before .before .args .m .«tlb_enabled») (c .if1 .taken))
 
-shr32-requires : tie.Need-shr32-requires
-shr32-requires c κs = search needs
+shr64-requires : tie.Need-shr64-requires
+shr64-requires c κs = search needs
 
-asid-requires : tie.Need-asid-requires
-asid-requires c κs = search needs
+asid-of-requires : tie.Need-asid-of-requires
+asid-of-requires c κs = search needs
 
 probe-requires : tie.Need-probe-requires
 probe-requires c κs = search needs
@@ -25,9 +25,9 @@ returns-2 : tie.Need-returns-2
 unfolding consultOf
 returns-2 c =
     let e = c .before .before .before .before .before .before in
-    rw (not-false (e .before .before .args .m .«tlb_enabled») (e .if1 .left), c .decide .ensures, c .before .before .probe .ensures, c .before .before .before .before .asid .ensures, c .before .before .before .before .before .shr32 .ensures)
+    rw (not-false (e .before .before .args .m .«tlb_enabled») (e .if1 .left), c .decide .ensures, c .before .before .probe .ensures, c .before .before .before .before .asid-of .ensures, c .before .before .before .before .before .shr64 .ensures)
 
 pub consult-spec : {M : Type 1} → statement M
 consult-spec =
     tie.close
-    (tie.spec returns shr32-requires asid-requires probe-requires decide-requires returns-2)
+    (tie.spec returns shr64-requires asid-of-requires probe-requires decide-requires returns-2)

@@ -1,7 +1,7 @@
 -- `miss`: the walk's answer is the verdict's, and each of its two cases is one of the definition's.
 use mathlib.Core.Path.{_≡_, sym, ap, ap₂, _∙_}
 use Rattle.walk.specs.Answer.{answerOf, markedBy}
-use Rattle.walker.specs.Descent.{sv32}
+use Rattle.scheme.specs.Scheme.{formatOf}
 use Rattle.state.specs.declared.Mmu.{Mmu}
 use Rattle.access.specs.declared.Answer.{Answer}
 use Rattle.access.specs.declared.Served.{Served}
@@ -12,8 +12,8 @@ use borrow.Author.Needs.{needs}
 use Rattle.serve.proofs.miss.Statement.{statement}
 use Rattle.serve.proofs.miss.Tie as tie
 
-ppn-requires : tie.Need-ppn-requires
-ppn-requires c κs = search needs
+root-of-requires : tie.Need-root-of-requires
+root-of-requires c κs = search needs
 
 walk-valid-requires : tie.Need-walk-valid-requires
 walk-valid-requires c κs = search needs
@@ -25,12 +25,12 @@ ok-at-requires : tie.Need-ok-at-requires
 ok-at-requires c κs = search needs
 
 -- the walk is the plain one from satp's root
-walked : (c : tie.After-walk-valid) → c .walk-valid .result ≡ (let a = c .before .before .before .before .before .before .args in answerOf (a .q) (missWalk (a .m) (a .q) (a .ram .now)))
-walked c = rw (sym (c .before .before .ppn .ensures)) (c .walk-valid .ensures .0)
+walked : (c : tie.After-walk-valid) → c .walk-valid .result ≡ (let a = c .before .before .before .before .before .before .args in answerOf (formatOf (a .m .scheme)) (a .q) (missWalk (a .m) (a .q) (a .ram .now)))
+walked c = rw (sym (c .before .before .root-of .ensures)) (c .walk-valid .ensures .0)
 
 -- and so are its marks
-marks : (c : tie.After-walk-valid) → (let a = c .before .before .before .before .before .before .args in c .walk-valid .last .1 .1 .0 ≡ markedBy sv32 (a .q .kind) (a .ram .now) (missWalk (a .m) (a .q) (a .ram .now)))
-marks c = rw (sym (c .before .before .ppn .ensures)) (c .walk-valid .ensures .1)
+marks : (c : tie.After-walk-valid) → (let a = c .before .before .before .before .before .before .args in c .walk-valid .last .1 .1 .0 ≡ markedBy (formatOf (a .m .scheme)) (a .q .kind) (a .ram .now) (missWalk (a .m) (a .q) (a .ram .now)))
+marks c = rw (sym (c .before .before .root-of .ensures)) (c .walk-valid .ensures .1)
 
 abbrev served : Answer → Mmu → Served
 served a m = record { said = a; mmu = m }
@@ -76,7 +76,7 @@ pub miss-spec : {M : Type 1} → statement M
 miss-spec =
     tie.close
     (tie.spec
-    ppn-requires
+    root-of-requires
     walk-valid-requires
     enum-known-answer
     ok-at-requires

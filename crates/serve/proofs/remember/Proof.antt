@@ -19,8 +19,8 @@ returns c =
     let a = c .before .before .before .args in
     c .before .before .counted .ensures ∙ ap (kept-as (a .m) (a .q) (a .r)) (sym (not-true (a .m .«tlb_enabled») (c .if1 .taken)))
 
-asid-requires : tie.Need-asid-requires
-asid-requires c κs = search needs
+asid-of-requires : tie.Need-asid-of-requires
+asid-of-requires c κs = search needs
 
 made-requires : tie.Need-made-requires
 made-requires c κs = search needs
@@ -38,10 +38,10 @@ returns-2 c =
     ∙ ap (withTlb (a .m))
     (c .install .ensures
     ∙ ap (λ (n : Mmu). tlbInstall (n .tlb) (c .before .before .made .result)) (k .counted .ensures)
-    ∙ ap (tlbInstall u) (c .before .before .made .ensures ∙ ap (λ (n : ℕ). madeWith (a .m .scheme .«offset_bits») n (a .q) (a .r)) (c .before .before .before .asid .ensures)))
+    ∙ ap (tlbInstall u) (c .before .before .made .ensures ∙ ap (λ (n : ℕ). madeWith (a .m .scheme .«offset_bits») n (a .q) (a .r)) (c .before .before .before .asid-of .ensures)))
     ∙ ap (kept-as (a .m) (a .q) (a .r)) (sym (not-false (a .m .«tlb_enabled») (e .if1 .left)))
 
 pub remember-spec : {M : Type 1} → statement M
 remember-spec =
     tie.close
-    (tie.spec counted-requires returns asid-requires made-requires install-requires returns-2)
+    (tie.spec counted-requires returns asid-of-requires made-requires install-requires returns-2)

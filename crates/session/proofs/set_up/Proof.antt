@@ -27,8 +27,8 @@ refused-new config why e = go (roomFor config) refl
     go true t = let same : Said.Granted ≡ Said.Refused why = rw t at e in let z : _≡_ {A = ℕ} 0 1 = cc in absurd (omega arith)
     go false t = rw t
 
-is-valid-requires : tie.Need-is-valid-requires
-is-valid-requires c κs = search needs
+is-bought-requires : tie.Need-is-bought-requires
+is-bought-requires c κs = search needs
 
 default-config-requires : tie.Need-default-config-requires
 default-config-requires c κs = search needs
@@ -42,7 +42,7 @@ returns c =
     let n = c .before in
     let d = n .before in
     let i = d .before in
-    let v = sym (i .before .is-valid .ensures) ∙ not-true _ (i .if1 .taken) in
+    let v = sym (i .before .is-bought .ensures) ∙ not-true _ (i .if1 .taken) in
     (rw v, rw (v, n .new .ensures, d .default-config .ensures, default-room))
 
 new-requires-2 : tie.Need-new-requires-2
@@ -62,7 +62,7 @@ unfolding startOf settingsSaid onGrant
 returns-2 c =
     let n = c .before .before .before .before in
     let i = n .before in
-    let v = sym (i .before .is-valid .ensures) ∙ not-false _ (i .if1 .left) in
+    let v = sym (i .before .is-bought .ensures) ∙ not-false _ (i .if1 .left) in
     let e = sym (ap (λ (k : Kept). k .said) (n .new2 .ensures)) ∙ c .before .said .given .1 in
     (rw (v, e), rw (v, e, n .new2 .ensures) (refused-new _ _ e))
 
@@ -72,7 +72,7 @@ returns-3 c =
     let t = c .before in
     let n = t .before .before .before in
     let i = n .before in
-    let v = sym (i .before .is-valid .ensures) ∙ not-false _ (i .if1 .left) in
+    let v = sym (i .before .is-bought .ensures) ∙ not-false _ (i .if1 .left) in
     let e = sym (ap (λ (k : Kept). k .said) (n .new2 .ensures)) ∙ t .enum-told .given .1 in
     (rw (v, e), rw (v, e, c .take-over .ensures, n .new2 .ensures))
 
@@ -80,7 +80,7 @@ pub set-up-spec : {M : Type 1} → statement M
 set-up-spec =
     tie.close
     (tie.spec
-    is-valid-requires
+    is-bought-requires
     default-config-requires
     new-requires
     returns

@@ -1,5 +1,5 @@
 -- Each part is what its call ensures, and the offset and classes are Sv32's, worked out.
-use Rattle.scheme.specs.Scheme.{total, okWidths, validOf, classes, leafMasks}
+use Rattle.scheme.specs.Scheme.{total, okWidths, validOf, classes, leafMasks, isSv39, addressBits}
 use Rattle.tlb.specs.State.{tlbNew}
 use Rattle.tlb.proofs.new.Statement.{statement}
 use Rattle.tlb.proofs.new.Tie as tie
@@ -14,7 +14,7 @@ sets-for-requires : tie.Need-sets-for-requires
 sets-for-requires c κs = tt
 
 returns : tie.Need-returns
-unfolding tlbNew leafMasks validOf okWidths total classes
+unfolding tlbNew leafMasks validOf okWidths total classes isSv39 addressBits
 returns c = rw (c .sets-for .ensures, c .before .entries-for .ensures, c .before .before .blank-entry .ensures)
 
 pub new-spec : {M : Type 1} → statement M

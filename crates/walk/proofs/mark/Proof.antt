@@ -1,4 +1,5 @@
 -- `mark`: a word that the marks change is stored, which a readable place takes; else RAM stays.
+use native.Mathlib.Omega.{arith}
 use mathlib.Core.Path.{_≡_, sym, ap, _∙_}
 use Rattle.memory.proofs.Reading.{stored}
 use Rattle.walk.specs.Answer.{markOf}
@@ -17,8 +18,8 @@ new-requires c κs = search needs
 marked-requires : tie.Need-marked-requires
 marked-requires c κs = search needs
 
-store32-requires : tie.Need-store32-requires
-store32-requires c κs = search needs
+store-requires : tie.Need-store-requires
+store-requires c κs = omega (arith, c .before .before .before .before .before .pre .0 .narrow)
 
 same-length : tie.Need-same-length
 same-length c = search needs
@@ -27,8 +28,8 @@ returns : tie.Need-returns
 returns c =
     let m = c .before .before .before .before .before in
     let s = m .before .before .before in
-    c .before .before .store32 .ensures .1
-    ∙ sym (stored _ _ _ (s .pre))
+    c .before .before .store .ensures .1
+    ∙ sym (stored _ _ _ _ _ (s .pre .1))
     ∙ mark-put _ _ _ _ _ _ (is-mark m) (c .before .before .before .before .if1 .taken)
 
 returns-2 : tie.Need-returns-2
@@ -37,4 +38,4 @@ returns-2 c = mark-keep _ _ _ _ _ _ (is-mark (c .before)) (c .if1 .left)
 pub mark-spec : {M : Type 1} → statement M
 mark-spec =
     tie.close
-    (tie.spec new-requires marked-requires store32-requires same-length returns returns-2)
+    (tie.spec new-requires marked-requires store-requires same-length returns returns-2)

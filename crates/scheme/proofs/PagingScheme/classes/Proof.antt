@@ -35,35 +35,38 @@ long c =
     let four : length (c .args .t1 .«level_bits») ≡ 4 = search needs in
     omega (arith, good c .four)
 
+address-bits-requires : tie.Need-address-bits-requires Inv-loop μ-loop
+address-bits-requires c κs = search needs
+
 sub-rest : tie.Need-sub-rest Inv-loop μ-loop
-sub-rest c = omega (arith, good c .offset-high)
+sub-rest c = omega (arith, good (c .before) .offset-high, good (c .before) .bits-low, c .address-bits .ensures)
 
 loop-holds : tie.Need-loop-holds Inv-loop μ-loop
 loop-holds c =
-    let s = c .args .t1 in
-    let count = length-classes (widthsOf s) ∙ length-take-le (s .levels) (s .«level_bits») (long c) in
+    let s = c .before .args .t1 in
+    let count = length-classes (widthsOf s) ∙ length-take-le (s .levels) (s .«level_bits») (long (c .before)) in
     let at : s .levels - 0 ≡ length (classes (widthsOf s)) = omega (arith, count) in (
       search needs,
       search needs,
-      omega (arith, good c .all-32),
+      omega (arith, good (c .before) .all, c .address-bits .ensures),
       ap (λ (k : ℕ). classes (widthsOf s) ++ drop k (0 ∷ 0 ∷ 0 ∷ 0 ∷ [])) at,
     )
 
 element-copy-out-w : tie.Need-element-copy-out-w Inv-loop μ-loop
-element-copy-out-w c = omega (arith, good (c .before .before) .four)
+element-copy-out-w c = omega (arith, good (c .before .before .before) .four)
 
 -- what is left begins with the width that the turn reads
-first : (c : tie.In-loop Inv-loop μ-loop) → drop (c .before .loop .i) (widthsOf (c .before .before .args .t1))
-    ≡ getD (c .before .before .args .t1 .«level_bits») (c .before .loop .i) 0
-    ∷ drop (c .before .loop .i + 1) (widthsOf (c .before .before .args .t1))
-first c = rest-cons (c .before .before .args .t1 .«level_bits») _ (long (c .before .before)) _ (c .loop-test .taken)
+first : (c : tie.In-loop Inv-loop μ-loop) → drop (c .before .loop .i) (widthsOf (c .before .before .before .args .t1))
+    ≡ getD (c .before .before .before .args .t1 .«level_bits») (c .before .loop .i) 0
+    ∷ drop (c .before .loop .i + 1) (widthsOf (c .before .before .before .args .t1))
+first c = rest-cons (c .before .before .before .args .t1 .«level_bits») _ (long (c .before .before .before)) _ (c .loop-test .taken)
 
 sum : (c : tie.In-loop Inv-loop μ-loop) → c .before .loop .rest
-    ≡ getD (c .before .before .args .t1 .«level_bits») (c .before .loop .i) 0
-    + total (drop (c .before .loop .i + 1) (widthsOf (c .before .before .args .t1)))
+    ≡ getD (c .before .before .before .args .t1 .«level_bits») (c .before .loop .i) 0
+    + total (drop (c .before .loop .i + 1) (widthsOf (c .before .before .before .args .t1)))
 sum c =
     c .before .loop .inv .2
-    ∙ total-cons (c .before .before .args .t1 .«level_bits») _ (long (c .before .before)) _ (c .loop-test .taken)
+    ∙ total-cons (c .before .before .before .args .t1 .«level_bits») _ (long (c .before .before .before)) _ (c .loop-test .taken)
 
 sub-rest-2 : tie.Need-sub-rest-2 Inv-loop μ-loop
 sub-rest-2 c = omega (arith, sum (c .before))
@@ -75,7 +78,7 @@ sub-at-2 : tie.Need-sub-at-2 Inv-loop μ-loop
 sub-at-2 c = search needs
 
 array-write-masks : tie.Need-array-write-masks Inv-loop μ-loop
-array-write-masks c = omega (arith, good (c .before .before .before) .four)
+array-write-masks c = omega (arith, good (c .before .before .before .before) .four)
 
 add-i : tie.Need-add-i Inv-loop μ-loop
 add-i c = search needs
@@ -85,11 +88,11 @@ loop-less c = search needs
 
 loop-again : tie.Need-loop-again Inv-loop μ-loop
 loop-again c =
-    let s = c .before .before .before .args .t1 in
+    let s = c .before .before .before .before .args .t1 in
     let l = c .before .before .loop in
     let left : l .rest - getD (s .«level_bits») (l .i) 0 ≡ total (drop (l .i + 1) (widthsOf s)) = omega (arith, sum (c .before)) in
     let h = c .before .loop-test .taken in
-    let room : s .levels - 1 - l .i < length (l .masks) = omega (arith, good (c .before .before .before) .four) in (
+    let room : s .levels - 1 - l .i < length (l .masks) = omega (arith, good (c .before .before .before .before) .four) in (
       search needs,
       search needs,
       left,
@@ -100,7 +103,7 @@ returns : tie.Need-returns Inv-loop μ-loop
 returns c =
     let l = c .before .loop in
     let h = c .loop-test .left in
-    class-end (l .masks) _ (l .i) _ (rest-end (c .before .before .args .t1 .«level_bits») _ (long (c .before .before)) _ h) h ∙ l .inv .3
+    class-end (l .masks) _ (l .i) _ (rest-end (c .before .before .before .args .t1 .«level_bits») _ (long (c .before .before .before)) _ h) h ∙ l .inv .3
 
 pub classes-spec : {M : Type 1} → statement M
 classes-spec =
@@ -109,6 +112,7 @@ classes-spec =
     Inv-loop
     μ-loop
     cast-n
+    address-bits-requires
     sub-rest
     loop-holds
     element-copy-out-w

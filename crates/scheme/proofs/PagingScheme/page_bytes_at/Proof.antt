@@ -31,7 +31,7 @@ shl-bytes c =
 returns : tie.Need-returns
 unfolding pageBytesAt
 returns c =
-    let power = one-shl (c .shift-below .result) (shl-bytes c) in
+    let power = one-shl 32 (c .shift-below .result) (shl-bytes c) in
     granted _ _ _ (known (c .before)) (power ∙ ap (λ (k : ℕ). 2 ^ k) (c .shift-below .ensures))
 
 returns-2 : tie.Need-returns-2

@@ -1,10 +1,10 @@
 -- `u64_at`: two halves, added up.
 use native.Mathlib.Omega.{arith}
 use denote.Ref.{now}
-use Rattle.image_read.proofs.Arrays.{eight}
+use Rattle.entry_image.proofs.Bytes.{eight}
 use borrow.Author.Needs.{needs}
-use Rattle.image_read.proofs.u64_at.Statement.{statement}
-use Rattle.image_read.proofs.u64_at.Tie as tie
+use Rattle.entry_image.proofs.u64_at.Statement.{statement}
+use Rattle.entry_image.proofs.u64_at.Tie as tie
 
 u32-at-requires : tie.Need-u32-at-requires
 u32-at-requires c κs = search needs
