@@ -12,7 +12,7 @@ use Rattle.scheme.specs.declared.access.AccessType.the-variants.{Fetch, Load, S
 use Rattle.scheme.specs.declared.access.PrivMode.{PrivMode}
 use Rattle.scheme.specs.declared.access.PrivMode.the-variants.{U, S, M}
 use Rattle.scheme.specs.declared.satp.SatpMode.{SatpMode}
-use Rattle.scheme.specs.declared.satp.SatpMode.the-variants.{Bare, Sv32, Sv39, Unknown}
+use Rattle.scheme.specs.declared.satp.SatpMode.the-variants.{Bare, Paged, Neither}
 use Rattle.walk.specs.Rights.{allows, openTo}
 use Rattle.walk.specs.Verdict.{walkOf}
 use Rattle.walk.specs.Answer.{markedBy, physicalOf, resultOf, wordsOf}
@@ -37,9 +37,8 @@ use Rattle.access.specs.declared.Served.{Served}
 
 abbrev pub isBare : SatpMode → Bool
 isBare Bare = true
-isBare Sv32 = false
-isBare Sv39 = false
-isBare Unknown = false
+isBare Paged = false
+isBare Neither = false
 
 abbrev pub isMachine : PrivMode → Bool
 isMachine U = false

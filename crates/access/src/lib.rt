@@ -52,9 +52,8 @@ fn is_bare(mode: SatpMode) -> bool
 {
     match mode {
         SatpMode::Bare => true,
-        SatpMode::Sv32 => false,
-        SatpMode::Sv39 => false,
-        SatpMode::Unknown => false,
+        SatpMode::Paged => false,
+        SatpMode::Neither => false,
     }
 }
 

@@ -1,7 +1,7 @@
 // Fields of 64-bit words by masks and shifts, said in plain arithmetic. All are total: 64 bits or more are the whole word.
 ghost use mathlib.Core.Path.{_≡_};
 ghost use Prim.Native.Nat.{_/_, _%_, _^_, _<_};
-ghost use Rattle.bits.specs.Bits.{withLow};
+ghost use Rattle.bits.specs.Bits.{fieldOf, withLow};
 
 // The k low bits of x.
 pub fn low_bits(x: u64, k: u32) -> u64
@@ -29,4 +29,11 @@ pub fn shr64(x: u64, k: u8) -> u64
     ensures { λ r. ⌜ r ≡ x / 2 ^ k ⌝ }
 {
     if k < 64 { x >> k } else { 0 }
+}
+
+// The field of `width` bits of x that starts at bit `at`.
+pub fn field(x: u64, at: u8, width: u8) -> u64
+    ensures { λ r. ⌜ (r ≡ fieldOf at width x) × (r < 2 ^ width) ⌝ }
+{
+    low_bits(shr64(x, at), width as u32)
 }

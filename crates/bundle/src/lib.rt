@@ -22,6 +22,9 @@ ghost use Rattle.bundle.specs.Parts.{schemeAt, configAt, settingsAt, bod
 
 mod codes;
 
+pub use codes::access_from;
+pub use codes::mode_from;
+
 pub struct MapBody {
     pub spec: PageMapSpec,
     pub root: u32,

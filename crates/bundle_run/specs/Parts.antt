@@ -1,13 +1,20 @@
 -- What a run of a bundle's parts prints, and the RAM and the state that it leaves.
 use Prim.Native.Nat.{ℕ, _+_, _*_, _≤_}
+use mathlib.Core.Bool.{cond}
 use mathlib.Core.List.{List, []}
 use lib.ListN.{length, take, drop}
 use Rattle.scheme.specs.Refusals.{onGrant}
+use Rattle.scheme.specs.Scheme.{boughtOf}
 use Rattle.scheme.specs.declared.PagingScheme.{PagingScheme}
+use Rattle.scheme.specs.declared.refusal.Refusal.the-variants.{BadScheme}
 use Rattle.scheme.specs.declared.refusal.Said.{Said}
 use Rattle.scheme.specs.declared.refusal.Said.the-variants.{Granted, Refused}
+use Rattle.entry.specs.Geometry.{defaultConfig}
+use Rattle.entry.specs.declared.TlbConfig.{TlbConfig}
+use Rattle.state.specs.State.{stateNew}
 use Rattle.state.specs.declared.Mmu.{Mmu}
-use Rattle.session.specs.Session.{endMmu, endRam}
+use Rattle.session.specs.Session.{startOf, settingsSaid, endMmu, endRam}
+use Rattle.session.specs.declared.Settings.{Settings}
 use Rattle.session.specs.declared.Event.{Event}
 use Rattle.installer.specs.Install.{installSaid, installRam}
 use Rattle.bundle.specs.declared.MapPart.{MapPart}
@@ -15,6 +22,15 @@ use Rattle.bundle.specs.declared.MapPart.the-variants.{None, Map}
 use Rattle.bundle.specs.declared.Parts.{Parts}
 use Rattle.text.specs.Lines.{refusedLine}
 use Rattle.steps.specs.Steps.{eventsFrom, textFrom}
+
+-- ---- the state to start from. "The bundle and the installer stay with 01's schemes"
+
+-- "The program tests .. 1, 2"
+unfoldable pub bundleSaid : TlbConfig → Settings → Said
+bundleSaid config t = cond (boughtOf (t .scheme)) (settingsSaid config t) (Refused BadScheme)
+
+unfoldable pub bundleStart : TlbConfig → Settings → Mmu
+bundleStart config t = cond (boughtOf (t .scheme)) (startOf config t) (stateNew defaultConfig)
 
 -- ---- the RAM to start from
 

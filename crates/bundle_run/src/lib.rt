@@ -1,8 +1,12 @@
-// A run of what was read: the bundle's RAM is copied, its map installed, its records run and their lines put.
+// A run of what was read: the MMU is set up, the bundle's RAM copied, its map installed, its records run and their lines put.
 use bundle::MapPart;
 use bundle::Parts;
+use entry::TlbConfig;
+use mmu::Kept;
 use scheme::PagingScheme;
+use scheme::Refusal;
 use scheme::Said;
+use session::Settings;
 use state::Mmu;
 use steps::Stepped;
 ghost use mathlib.Core.Path.{_≡_};
@@ -11,7 +15,18 @@ ghost use lib.ListN.{length};
 ghost use lib.Seq.{sets};
 ghost use Rattle.writer.specs.Put.{Put};
 ghost use Rattle.steps.specs.Steps.{eventsFrom};
-ghost use Rattle.bundle_run.specs.Parts.{givenRam, mapSaid, mapRam, mapText, mapEnd, mapMmu, partsText, partsEnd, partsMmu, roomOf, Within};
+ghost use Rattle.bundle_run.specs.Parts.{bundleSaid, bundleStart, givenRam, mapSaid, mapRam, mapText, mapEnd, mapMmu, partsText, partsEnd, partsMmu, roomOf, Within};
+
+// The state that a bundle's settings give, or why they are refused: of the valid schemes a bundle has document 01's.
+pub fn set_up(config: TlbConfig, t: Settings) -> Kept
+    ensures { λ r. ⌜ (r .said ≡ bundleSaid config t) × (r .mmu ≡ bundleStart config t) ⌝ }
+{
+    let s = t.scheme;
+    if !s.is_bought() {
+        return session::refused(Refusal::BadScheme);
+    }
+    session::set_up(config, t)
+}
 
 // Installs the map, if there is one.
 fn install(map: MapPart, s: PagingScheme, ram: &mut [u8]) -> Said

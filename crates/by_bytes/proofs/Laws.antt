@@ -7,7 +7,8 @@ use native.Mathlib.Omega.{arith}
 use lib.Dec.{eqb}
 use lib.ListN.{length}
 use borrow.Author.Tests.{eqb-true}
-use Rattle.by_bytes.specs.Numbers.{mapGiven, recordGiven}
+use Rattle.bits.proofs.Bools.{and-left}
+use Rattle.by_bytes.specs.Numbers.{mapGiven, walkGiven}
 
 pub map-rooms : (scheme map : List ℕ) → mapGiven scheme map ≡ true → (6 ≤ length scheme) × (20 ≤ length map)
 unfolding mapGiven
@@ -18,11 +19,8 @@ map-rooms scheme map e =
     let b : length map ≡ 20 = eqb-true _ _ (two .0) in
     (omega arith, omega arith)
 
-pub record-rooms : (scheme asked : List ℕ) → recordGiven scheme asked ≡ true → (6 ≤ length scheme) × (8 ≤ length asked)
-unfolding recordGiven
-record-rooms scheme asked e =
-    let one = and-eq-true-iff (eqb (length scheme) 6) _ .0 e in
-    let two = and-eq-true-iff (eqb (length asked) 8) _ .0 (one .1) in
-    let a : length scheme ≡ 6 = eqb-true _ _ (one .0) in
-    let b : length asked ≡ 8 = eqb-true _ _ (two .0) in
-    (omega arith, omega arith)
+pub walk-room : (scheme : List ℕ) (kind mode : ℕ) → walkGiven scheme kind mode ≡ true → 6 ≤ length scheme
+unfolding walkGiven
+walk-room scheme kind mode e =
+    let six : length scheme ≡ 6 = eqb-true _ _ (and-left _ _ e) in
+    omega arith

@@ -1,8 +1,8 @@
--- What is asked for with bytes alone, and answered with a number: the map, one walk, and a question. Schemes, maps and records are the bundle's
--- bytes.
-use Prim.Native.Nat.{ℕ, _+_, _^_}
+-- What is asked for with bytes and numbers alone, and answered with a number: the map, one walk, and a question. Schemes and maps are the
+-- bundle's bytes.
+use Prim.Native.Nat.{ℕ}
 use mathlib.Core.Bool.{Bool, cond, _&&_}
-use mathlib.Core.List.{List, _++_}
+use mathlib.Core.List.{List}
 use lib.Dec.{eqb, ltb}
 use lib.ListN.{length}
 use lib.Seq.{sets}
@@ -18,12 +18,10 @@ use Rattle.walk.specs.declared.Reply.the-variants as Reply
 use Rattle.walk.specs.declared.Walked.{Walked}
 use Rattle.walk.specs.declared.Walked.the-variants.{Ok, Err}
 use Rattle.walk.specs.declared.WalkAnswer.{WalkAnswer}
-use Rattle.session.specs.declared.Event.{Event}
-use Rattle.session.specs.declared.Event.the-variants.{Translate, Flush, FlushAt}
 use Rattle.installer.specs.Install.{installSaid, installRam}
-use Rattle.layout.specs.Layout.{mapOk, recordsOk}
-use Rattle.bundle.specs.Parts.{schemeAt, bodyAt, eventAt}
-use Rattle.entry_image.specs.EntryImage.{leBytes}
+use Rattle.layout.specs.Layout.{mapOk}
+use Rattle.bundle.specs.Parts.{schemeAt, bodyAt}
+use Rattle.imaged.specs.Accesses.{accessGiven, accessBy, toldBytes}
 use Rattle.imaged.specs.Imaged.{laidOut}
 
 -- ---- the map
@@ -45,11 +43,11 @@ installedRam scheme map ram =
 
 -- ---- one walk
 
--- six bytes of a scheme and one record
-unfoldable pub recordGiven : List ℕ → List ℕ → Bool
-recordGiven scheme asked = eqb (length scheme) 6 && (eqb (length asked) 8 && recordsOk 8 asked 0 1)
+-- six bytes of a scheme, and numbers for kind and privilege
+unfoldable pub walkGiven : List ℕ → ℕ → ℕ → Bool
+walkGiven scheme kind mode = eqb (length scheme) 6 && accessGiven kind mode
 
--- what a walk tells: u32 cause, 0 for a page; u32 address, 0 for a fault; u32 words asked for
+-- what a walk tells
 abbrev pub toldCause : Walked → ℕ
 toldCause (Ok r) = 0
 toldCause (Err f) = f .cause
@@ -59,7 +57,7 @@ toldPlace (Ok r) = r .paddr
 toldPlace (Err f) = 0
 
 unfoldable pub walkTold : WalkAnswer → List ℕ
-walkTold a = leBytes 4 (toldCause (a .answer)) ++ (leBytes 8 (toldPlace (a .answer)) ++ leBytes 4 (a .words))
+walkTold a = toldBytes (toldCause (a .answer)) (toldPlace (a .answer)) (a .words)
 
 abbrev pub replyNumber : Reply → ℕ
 replyNumber (Reply.Done a) = 0
@@ -69,44 +67,28 @@ abbrev pub replyTold : Reply → List ℕ → List ℕ
 replyTold (Reply.Done a) told = sets told 0 (walkTold a)
 replyTold (Reply.Refused why) told = told
 
--- a record that asks for no access is 8
-abbrev pub eventNumber : List ℕ → ℕ → List ℕ → Event → ℕ
-eventNumber scheme root ram (Translate q) = replyNumber (walkReply (schemeAt scheme 0) root ram q)
-eventNumber scheme root ram Flush = numberOf BadLayout
-eventNumber scheme root ram (FlushAt va) = numberOf BadLayout
-
-abbrev pub eventTold : List ℕ → ℕ → List ℕ → Event → List ℕ → List ℕ
-eventTold scheme root ram (Translate q) told = replyTold (walkReply (schemeAt scheme 0) root ram q) told
-eventTold scheme root ram Flush told = told
-eventTold scheme root ram (FlushAt va) told = told
-
-abbrev pub eventRam : List ℕ → ℕ → List ℕ → Event → List ℕ
-eventRam scheme root ram (Translate q) = walkRam (schemeAt scheme 0) root ram q
-eventRam scheme root ram Flush = ram
-eventRam scheme root ram (FlushAt va) = ram
-
 -- 255 where `told` has fewer than 16 bytes, then 8, then the walk's own
-unfoldable pub walkNumber : List ℕ → ℕ → List ℕ → List ℕ → List ℕ → ℕ
-walkNumber scheme root asked ram told =
-    cond (ltb (length told) 16) 255
-    (cond (recordGiven scheme asked) (eventNumber scheme root ram (eventAt asked 0)) (numberOf BadLayout))
+module _ (scheme : List ℕ) (root va kind mode : ℕ) (ram told : List ℕ) where
+  abbrev pub replyHere : Reply
+  replyHere = walkReply (schemeAt scheme 0) root ram (accessBy va kind mode)
 
-unfoldable pub toldAfter : List ℕ → ℕ → List ℕ → List ℕ → List ℕ → List ℕ
-toldAfter scheme root asked ram told =
-    cond (ltb (length told) 16) told
-    (cond (recordGiven scheme asked) (eventTold scheme root ram (eventAt asked 0) told) told)
+  unfoldable pub walkNumber : ℕ
+  walkNumber = cond (ltb (length told) 16) 255 (cond (walkGiven scheme kind mode) (replyNumber replyHere) (numberOf BadLayout))
 
-unfoldable pub ramAfter : List ℕ → ℕ → List ℕ → List ℕ → List ℕ → List ℕ
-ramAfter scheme root asked ram told =
-    cond (ltb (length told) 16) ram
-    (cond (recordGiven scheme asked) (eventRam scheme root ram (eventAt asked 0)) ram)
+  unfoldable pub toldAfter : List ℕ
+  toldAfter = cond (ltb (length told) 16) told (cond (walkGiven scheme kind mode) (replyTold replyHere told) told)
+
+  unfoldable pub ramAfter : List ℕ
+  ramAfter =
+      cond (ltb (length told) 16) ram
+      (cond (walkGiven scheme kind mode) (walkRam (schemeAt scheme 0) root ram (accessBy va kind mode)) ram)
 
 -- ---- a question
 
--- the number asked for, or 2^32 and the refusal's number more
+-- the root, which is a multiple of 4096; where it is refused the number, which is none
 unfoldable pub askedNumber : Asked → ℕ
 askedNumber (Asked.Is n) = n
-askedNumber (Asked.Refused why) = 2 ^ 32 + numberOf why
+askedNumber (Asked.Refused why) = numberOf why
 
 abbrev pub rootNumber : List ℕ → ℕ → ℕ
-rootNumber scheme size = cond (eqb (length scheme) 6) (askedNumber (rootPa (schemeAt scheme 0) size)) (2 ^ 32 + numberOf BadLayout)
+rootNumber scheme size = cond (eqb (length scheme) 6) (askedNumber (rootPa (schemeAt scheme 0) size)) (numberOf BadLayout)

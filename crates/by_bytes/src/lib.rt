@@ -1,7 +1,6 @@
-// What a host asks for with bytes alone and no state: a map, a walk, a root. Answers are numbers.
+// What a host asks for with bytes and numbers alone and no state: a map, a walk, a root. Answers are numbers.
 use scheme::Asked;
 use scheme::PagingScheme;
-use session::Event;
 use walk::Access;
 use walk::Reply;
 use walk::WalkAnswer;
@@ -12,7 +11,7 @@ ghost use lib.ListN.{length};
 ghost use Rattle.walk.specs.Answer.{walkReply, walkRam};
 ghost use Rattle.writer.specs.Put.{Put};
 ghost use Rattle.imaged.specs.Imaged.{saidNumber};
-ghost use Rattle.by_bytes.specs.Numbers.{mapGiven, installedSaid, installedRam, recordGiven, toldCause, toldPlace, walkTold, replyNumber, replyTold, walkNumber, toldAfter, ramAfter, rootNumber};
+ghost use Rattle.by_bytes.specs.Numbers.{mapGiven, installedSaid, installedRam, walkGiven, toldCause, toldPlace, walkTold, replyNumber, replyTold, walkNumber, toldAfter, ramAfter, rootNumber};
 
 fn map_given(scheme: &[u8], map: &[u8]) -> bool
     ensures { λ r. ⌜ r ≡ mapGiven (now (scheme .entry)) (now (map .entry)) ⌝ }
@@ -42,16 +41,13 @@ pub fn install(scheme: &[u8], map: &[u8], ram: &mut [u8]) -> u32
     imaged::said_number(said)
 }
 
-fn record_given(scheme: &[u8], asked: &[u8]) -> bool
-    ensures { λ r. ⌜ r ≡ recordGiven (now (scheme .entry)) (now (asked .entry)) ⌝ }
+fn walk_given(scheme: &[u8], kind: u8, mode: u8) -> bool
+    ensures { λ r. ⌜ r ≡ walkGiven (now (scheme .entry)) kind mode ⌝ }
 {
     if scheme.len() != 6 {
         return false;
     }
-    if asked.len() != 8 {
-        return false;
-    }
-    layout::records_ok(asked, 0, 1)
+    imaged::access_given(kind, mode)
 }
 
 fn told_cause(w: Walked) -> u32
@@ -79,9 +75,7 @@ fn put_walk(told: &mut [u8], a: WalkAnswer) -> usize
     let w = a.answer;
     let cause = told_cause(w);
     let place = told_place(w);
-    let x = entry_image::put_le(told, 0, 4, cause as u64);
-    let y = entry_image::put_le(told, x, 8, place);
-    entry_image::put_le(told, y, 4, a.words as u64)
+    imaged::put_told(told, cause, place, a.words)
 }
 
 fn walk_one(s: PagingScheme, root: u64, q: Access, ram: &mut [u8], told: &mut [u8]) -> u32
@@ -101,37 +95,40 @@ fn walk_one(s: PagingScheme, root: u64, q: Access, ram: &mut [u8], told: &mut [u
 }
 
 // One access by a plain walk from a root frame: `told` gets the cause, the address and the count of words.
-pub fn walk(scheme: &[u8], root: u64, asked: &[u8], ram: &mut [u8], told: &mut [u8]) -> u32
-    ensures { λ r. ⌜ (r ≡ walkNumber (now (scheme .entry)) root (now (asked .entry)) (now (ram .entry)) (now (told .entry)))
-        × (now (ram .exit) ≡ ramAfter (now (scheme .entry)) root (now (asked .entry)) (now (ram .entry)) (now (told .entry)))
-        × (now (told .exit) ≡ toldAfter (now (scheme .entry)) root (now (asked .entry)) (now (ram .entry)) (now (told .entry))) ⌝ }
+pub fn walk(
+    scheme: &[u8],
+    root: u64,
+    vaddr: u64,
+    kind: u8,
+    mode: u8,
+    ram: &mut [u8],
+    told: &mut [u8],
+) -> u32
+    ensures { λ r. ⌜ (r ≡ walkNumber (now (scheme .entry)) root vaddr kind mode (now (ram .entry)) (now (told .entry)))
+        × (now (ram .exit) ≡ ramAfter (now (scheme .entry)) root vaddr kind mode (now (ram .entry)) (now (told .entry)))
+        × (now (told .exit) ≡ toldAfter (now (scheme .entry)) root vaddr kind mode (now (ram .entry)) (now (told .entry))) ⌝ }
 {
     if told.len() < 16 {
         return 255;
     }
-    if !record_given(scheme, asked) {
+    if !walk_given(scheme, kind, mode) {
         return 8;
     }
     let s = bundle::scheme_at(scheme, 0);
-    let e = bundle::event_at(asked, 0);
-    match e {
-        Event::Translate(q) => walk_one(s, root, q, ram, told),
-        Event::Flush => 8,
-        Event::FlushAt(va) => 8,
-    }
+    walk_one(s, root, imaged::access_by(vaddr, kind, mode), ram, told)
 }
 
-// The root of a RAM of some size, or 2^32 and the refusal's number more.
-pub fn root_pa(scheme: &[u8], ram_size: u32) -> u64
+// The root of a RAM of some size, or the refusal's number.
+pub fn root_pa(scheme: &[u8], ram_size: u64) -> u64
     ensures { λ r. ⌜ r ≡ rootNumber (now (scheme .entry)) «ram_size» ⌝ }
 {
     if scheme.len() != 6 {
-        return 0x1_0000_0008;
+        return 8;
     }
     let s = bundle::scheme_at(scheme, 0);
     let told = s.root_pa(ram_size);
     match told {
-        Asked::Is(n) => n as u64,
-        Asked::Refused(why) => 0x1_0000_0000 + why.number() as u64,
+        Asked::Is(n) => n,
+        Asked::Refused(why) => why.number() as u64,
     }
 }

@@ -11,7 +11,8 @@ use Rattle.bits.specs.Bits.{bit, withBit}
 use Rattle.memory.specs.Word.{readable, leAt, putAt}
 use Rattle.memory.proofs.Laws.{length-put, read-same, read-other, Apart, before, after}
 use Rattle.memory.proofs.Reading.{readable-in}
-use Rattle.scheme.specs.Scheme.{total, okWidths, validOf, widthsOf, sv32Scheme, boughtOf, isSv39, addressBits, formatOf}
+use Rattle.scheme.specs.Satp.{modeIn, rootIn}
+use Rattle.scheme.specs.Scheme.{total, okWidths, validOf, widthsOf, sv32Scheme, boughtOf, isSv39, formatOf}
 use Rattle.scheme.specs.declared.access.AccessType.{AccessType}
 use Rattle.scheme.specs.declared.access.AccessType.the-variants.{Fetch, Load, Store}
 use Rattle.scheme.specs.declared.access.PrivMode.the-variants.{U, S}
@@ -30,6 +31,7 @@ use Rattle.order.specs.Runs.{accesses}
 use Rattle.order.specs.Plain.{passes, plainWalk, verdictMarks, earned, allMarks}
 use Rattle.order.specs.Claims.{Ready}
 use Rattle.order.proofs.Claims.{any-order, start-is-empty}
+use Rattle.order.proofs.Fit.{mode-01}
 use Rattle.plan.specs.Map.{planOf, flagsOf, opens, sumFrom, room}
 use Rattle.plan.specs.Writes.{rowWrites, tableWrites}
 use Rattle.plan.specs.Levels.{roomAt}
@@ -118,7 +120,7 @@ module _ (start : List ℕ) (bytes : Bytes start) (t : Two start 0x1F 0x0010_001
   -- an access whose entry is a leaf of the top table
   walk-is : (q : Access) (w a : ℕ) → topOk sv32 (q .vaddr) ≡ true → entryAt sv32 (q .vaddr) 1 22 10 ≡ a → metAt sv32 start 22 a ≡ Leaf w a
       → plainWalk settingsT start q ≡ leafJudged q (leafAt w a)
-  unfolding descentOf descentIn formatOf isSv39 seek follow judgeOf total
+  unfolding descentOf descentIn formatOf isSv39 rootIn seek follow judgeOf total
   walk-is q w a top e met = rw (top, e, met)
 
   -- and what its marks make of the two words
@@ -129,7 +131,7 @@ module _ (start : List ℕ) (bytes : Bytes start) (t : Two start 0x1F 0x0010_001
 
   -- access by access; the one in S earns nothing
   all-earned : Two (allMarks settingsT start (accesses eventsT) start) 0xDF 0x0010_005F
-  unfolding allMarks accesses topOk isSv39 entryAt place frame verdictMarks leafJudged faultIf withBit bit
+  unfolding allMarks accesses topOk modeIn formatOf isSv39 entryAt place frame verdictMarks leafJudged faultIf withBit bit
   all-earned =
       let one = earns (asked 0x1000 Load U) _ _ refl refl met-first refl _ (mark-first Load start _ _ 0x5F t (lit< tt) refl) in
       let two = earns (asked 0x3F_FFFC Load U) _ _ refl refl met-first refl _ (mark-first Load _ _ _ 0x5F one (lit< tt) refl) in
@@ -140,9 +142,9 @@ module _ (start : List ℕ) (bytes : Bytes start) (t : Two start 0x1F 0x0010_001
 
   -- whatever the cache did
   ends : Two (endRam eventsT (startOf configT settingsT) start) 0xDF 0x0010_005F
-  unfolding boughtOf validOf isSv39 addressBits okWidths total entriesFor powUp
+  unfolding boughtOf validOf okWidths total entriesFor powUp
   ends =
-      let ready : Ready settingsT = record { valid = refl; four = refl } in
+      let ready : Ready settingsT = record { valid = refl; mode = mode-01 sv32Scheme (settingsT .satp) refl; four = refl } in
       let empty = start-is-empty settingsT ready configT refl in
       let run = any-order settingsT start bytes _ _ empty empty eventsT eventsT Perm·rfl in
       rw (run .0 .ram) all-earned
@@ -150,7 +152,7 @@ module _ (start : List ℕ) (bytes : Bytes start) (t : Two start 0x1F 0x0010_001
 -- ---- the installed words
 
 said-T : refusalOf sv32Scheme mapT windowT 4096 8192 ≡ Granted
-unfolding refusalOf refuseIf boughtOf validOf isSv39 addressBits okWidths total barred roomAt room sumFrom opens planOf
+unfolding refusalOf refuseIf boughtOf okWidths total barred roomAt room sumFrom opens planOf
 said-T = refl
 
 module _ (ram : List ℕ) (holds : Holds ram (tableWrites (planOf sv32Scheme mapT windowT) (widthsOf sv32Scheme) 0 4096)) where

@@ -1,7 +1,7 @@
 -- Each of document 01's proved edges: by computing the definitions, or, where RAM is part of it, by the theorems over them.
 use mathlib.Core.Path.{refl}
 use Rattle.scheme.specs.Refusals.{asked}
-use Rattle.scheme.specs.Scheme.{total, okWidths, validOf, rootPa, isSv39, addressBits, formatOf}
+use Rattle.scheme.specs.Scheme.{total, okWidths, boughtOf, validOf, rootPa, isSv39, formatOf}
 use Rattle.entry.specs.Geometry.{powUp, entriesFor, setsFor}
 use Rattle.mmu.specs.Calls.{newOf}
 use Rattle.maps.proofs.Edges as maps
@@ -9,15 +9,15 @@ use Rattle.edges.proofs.CaseT as caseT
 use Rattle.edges.specs.Edges.{P1, P2, P3, P4, P5, P6, P7, P8, P9, P10, P11, P12}
 
 pub p1 : P1
-unfolding validOf isSv39 addressBits okWidths total
+unfolding validOf boughtOf okWidths total
 p1 = refl
 
 pub p2 : P2
-unfolding validOf isSv39 addressBits okWidths total
+unfolding validOf boughtOf isSv39 okWidths total
 p2 = refl
 
 pub p3 : P3
-unfolding validOf isSv39 addressBits okWidths total
+unfolding validOf boughtOf okWidths total
 p3 = refl
 
 pub p4 : P4
@@ -40,7 +40,7 @@ pub p8 : P8
 p8 = (refl, refl)
 
 pub p9 : P9
-unfolding rootPa asked validOf isSv39 addressBits formatOf okWidths total
+unfolding rootPa asked validOf boughtOf isSv39 formatOf okWidths total
 p9 = (refl, refl)
 
 pub p10 : P10

@@ -5,11 +5,13 @@ use scheme::MapKind;
 ghost use mathlib.Core.Path.{_≡_};
 ghost use mathlib.Core.Bool.{cond};
 ghost use lib.ListN.{length};
-ghost use Rattle.scheme.specs.Satp.{satpOf};
+ghost use Rattle.scheme.specs.Satp.{satpIn};
+ghost use Rattle.scheme.specs.Scheme.{sv32, sv39};
 ghost use Rattle.scheme.specs.Map.{deltaOf};
 ghost use Rattle.scheme.specs.declared.map.MapKind.the-variants.{Offset};
 ghost use Rattle.run.specs.Run.{tooShort, outputOf, endRamOf, ranOf, ranBuffer};
-ghost use Rattle.imaged.specs.Imaged.{saidNumber, keptIn, schemedOf, configuredOf};
+ghost use Rattle.imaged.specs.Imaged.{saidNumber, keptIn, schemedOf, configuredOf, flushedOf, flushedAtOf};
+ghost use Rattle.imaged.specs.Accesses.{translatedNumber, translatedImage, translatedRam, translatedTold};
 ghost use Rattle.imaged_run.specs.Records.{openedSaid, recordsText, recordsRam, recordsImage, recordsShort, recordsRan};
 ghost use Rattle.by_bytes.specs.Numbers.{installedSaid, installedRam, walkNumber, toldAfter, ramAfter, rootNumber};
 ghost use Rattle.ffi.specs.Exports.{ranNumber, stateShort, stateRan, stateBuffer};
@@ -105,6 +107,40 @@ pub extern "C" fn muntesulca_reconfigure(image: &mut [u8], config: &[u8]) -> u32
     imaged::reconfigure(image, config)
 }
 
+#[no_mangle]
+pub extern "C" fn muntesulca_flush(image: &mut [u8]) -> u32
+    ensures { λ r. ⌜ (r ≡ saidNumber (flushedOf (now (image .entry)) .said))
+        × (now (image .exit) ≡ keptIn (flushedOf (now (image .entry))) (now (image .entry))) ⌝ }
+{
+    imaged::flush(image)
+}
+
+#[no_mangle]
+pub extern "C" fn muntesulca_flush_vaddr(image: &mut [u8], vaddr: u64) -> u32
+    ensures { λ r. ⌜ (r ≡ saidNumber (flushedAtOf (now (image .entry)) vaddr .said))
+        × (now (image .exit) ≡ keptIn (flushedAtOf (now (image .entry)) vaddr) (now (image .entry))) ⌝ }
+{
+    imaged::flush_vaddr(image, vaddr)
+}
+
+// One access on a state's image: `told` gets the cause, the address, the count of words and the stall.
+#[no_mangle]
+pub extern "C" fn muntesulca_translate(
+    image: &mut [u8],
+    vaddr: u64,
+    kind: u8,
+    mode: u8,
+    ram: &mut [u8],
+    told: &mut [u8],
+) -> u32
+    ensures { λ r. ⌜ (r ≡ translatedNumber (now (image .entry)) vaddr kind mode (now (ram .entry)) (now (told .entry)))
+        × (now (image .exit) ≡ translatedImage (now (image .entry)) vaddr kind mode (now (ram .entry)) (now (told .entry)))
+        × (now (ram .exit) ≡ translatedRam (now (image .entry)) vaddr kind mode (now (ram .entry)) (now (told .entry)))
+        × (now (told .exit) ≡ translatedTold (now (image .entry)) vaddr kind mode (now (ram .entry)) (now (told .entry))) ⌝ }
+{
+    imaged::translate(image, vaddr, kind, mode, ram, told)
+}
+
 // Installs a map into RAM: the refusal's number, or 0.
 #[no_mangle]
 pub extern "C" fn muntesulca_install(scheme: &[u8], map: &[u8], ram: &mut [u8]) -> u32
@@ -119,20 +155,22 @@ pub extern "C" fn muntesulca_install(scheme: &[u8], map: &[u8], ram: &mut [u8]) 
 pub extern "C" fn muntesulca_walk(
     scheme: &[u8],
     root: u64,
-    asked: &[u8],
+    vaddr: u64,
+    kind: u8,
+    mode: u8,
     ram: &mut [u8],
     told: &mut [u8],
 ) -> u32
-    ensures { λ r. ⌜ (r ≡ walkNumber (now (scheme .entry)) root (now (asked .entry)) (now (ram .entry)) (now (told .entry)))
-        × (now (ram .exit) ≡ ramAfter (now (scheme .entry)) root (now (asked .entry)) (now (ram .entry)) (now (told .entry)))
-        × (now (told .exit) ≡ toldAfter (now (scheme .entry)) root (now (asked .entry)) (now (ram .entry)) (now (told .entry))) ⌝ }
+    ensures { λ r. ⌜ (r ≡ walkNumber (now (scheme .entry)) root vaddr kind mode (now (ram .entry)) (now (told .entry)))
+        × (now (ram .exit) ≡ ramAfter (now (scheme .entry)) root vaddr kind mode (now (ram .entry)) (now (told .entry)))
+        × (now (told .exit) ≡ toldAfter (now (scheme .entry)) root vaddr kind mode (now (ram .entry)) (now (told .entry))) ⌝ }
 {
-    by_bytes::walk(scheme, root, asked, ram, told)
+    by_bytes::walk(scheme, root, vaddr, kind, mode, ram, told)
 }
 
-// The root of a RAM of some size, or 2^32 and the refusal's number more.
+// The root of a RAM of some size, or the refusal's number.
 #[no_mangle]
-pub extern "C" fn muntesulca_root_pa(scheme: &[u8], ram_size: u32) -> u64
+pub extern "C" fn muntesulca_root_pa(scheme: &[u8], ram_size: u64) -> u64
     ensures { λ r. ⌜ r ≡ rootNumber (now (scheme .entry)) «ram_size» ⌝ }
 {
     by_bytes::root_pa(scheme, ram_size)
@@ -140,9 +178,16 @@ pub extern "C" fn muntesulca_root_pa(scheme: &[u8], ram_size: u32) -> u64
 
 #[no_mangle]
 pub extern "C" fn muntesulca_make_satp(root: u32, asid: u16) -> u32
-    ensures { λ r. ⌜ r ≡ satpOf root asid ⌝ }
+    ensures { λ r. ⌜ r ≡ satpIn sv32 root asid ⌝ }
 {
     scheme::make_satp(root, asid)
+}
+
+#[no_mangle]
+pub extern "C" fn muntesulca_make_satp39(root: u64, asid: u16) -> u64
+    ensures { λ r. ⌜ r ≡ satpIn sv39 root asid ⌝ }
+{
+    scheme::make_satp39(root, asid)
 }
 
 #[no_mangle]

@@ -10,12 +10,12 @@ fn perform(ram: &mut [u8], s: Step) {
     let op = s.op;
     match op {
         b'#' => (),
-        b'b' => fields::masks(s.a, s.b, s.c),
-        b'e' => fields::entry(s.a),
+        b'b' => fields::masks(script::low(s.a), s.b, s.c),
+        b'e' => fields::entry(s.a, s.wide),
         b'w' | b'l' => words::within(ram, s),
         b'p' => schemes::scheme(tell::scheme_of(s.a, s.b, s.c)),
-        b's' => schemes::satp(s.a),
-        b'k' => schemes::satp(scheme::make_satp(s.a, (s.b % 65536) as u16)),
+        b's' => schemes::satp(s.a, s.wide),
+        b'k' => schemes::made(s.a, (s.b % 65536) as u16, s.wide),
         b'd' => schemes::delta(s.a, s.b),
         _ => script::bad_line(),
     }

@@ -7,7 +7,7 @@ use scheme::SatpMode;
 
 fn answer(a: Asked) {
     match a {
-        Asked::Is(n) => show::hex(n as u64),
+        Asked::Is(n) => show::hex(n),
         Asked::Refused(r) => {
             show::text(b" refused");
             show::num(r.number());
@@ -58,26 +58,54 @@ pub fn scheme(s: PagingScheme) {
     level(s, 3);
 }
 
-pub fn satp(raw: u32) {
-    let s = Satp::new(raw as u64);
-    show::text(b"satp");
-    show::hex(raw as u64);
-    match s.mode(false) {
-        SatpMode::Bare => show::text(b" bare"),
-        SatpMode::Sv32 => show::text(b" sv32"),
-        SatpMode::Sv39 => show::text(b" sv39"),
-        SatpMode::Unknown => show::text(b" unknown"),
+fn board(wide: bool) -> PagingScheme {
+    if wide {
+        PagingScheme::sv39()
+    } else {
+        PagingScheme::sv32()
     }
-    show::num(s.asid(false) as u32);
-    show::hex(s.ppn(false));
+}
+
+fn mode_name(mode: SatpMode, wide: bool) {
+    match mode {
+        SatpMode::Bare => show::text(b" bare"),
+        SatpMode::Paged => {
+            if wide {
+                show::text(b" sv39");
+            } else {
+                show::text(b" sv32");
+            }
+        }
+        SatpMode::Neither => show::text(b" neither"),
+    }
+}
+
+// The fields of a satp, of Sv32 or of Sv39.
+pub fn satp(raw: u64, wide: bool) {
+    let s = board(wide);
+    let r = Satp::new(raw);
+    show::text(b"satp");
+    show::hex(raw);
+    mode_name(s.satp_mode(r), wide);
+    show::num(s.asid_of(r) as u32);
+    show::hex(s.root_of(r));
     show::end();
 }
 
+// The same of the one that is made for a root and an ASID.
+pub fn made(root: u64, asid: u16, wide: bool) {
+    if wide {
+        satp(scheme::make_satp39(root, asid), true);
+    } else {
+        satp(scheme::make_satp(script::low(root), asid) as u64, false);
+    }
+}
+
 // The byte delta of a map, whose kind and MiB are read as the trace bundle has them.
-pub fn delta(kind: u32, mib: u32) {
+pub fn delta(kind: u64, mib: u64) {
     let mut bytes = [0u8; 20];
-    tell::put(&mut bytes, 0, 0x100 * (kind % 256));
-    tell::put(&mut bytes, 4, mib);
+    tell::put(&mut bytes, 0, 0x100 * (kind % 256), false);
+    tell::put(&mut bytes, 4, mib, false);
     let spec = bundle::body_at(&bytes, 0).spec;
     let kind = spec.kind;
     show::text(b"delta");

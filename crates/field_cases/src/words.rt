@@ -5,7 +5,7 @@ use script::Step;
 fn load(ram: &[u8], a: u32) {
     show::text(b"load");
     show::hex(a as u64);
-    match memory::load(ram, a as u64, 4, 32) {
+    match memory::load32(ram, a) {
         Word::Is(w) => show::hex(w),
         Word::Unreadable => show::text(b" unreadable"),
     }
@@ -15,7 +15,7 @@ fn load(ram: &[u8], a: u32) {
 fn store(ram: &mut [u8], a: u32, v: u32) {
     show::text(b"store");
     show::hex(a as u64);
-    let done = memory::store(ram, a as u64, 4, 32, v as u64);
+    let done = memory::store32(ram, a, v);
     show::flag(done);
     show::end();
 }
@@ -27,8 +27,8 @@ pub fn within(ram: &mut [u8], s: Step) {
         return;
     }
     if s.op == b'w' {
-        store(&mut ram[..n], s.a, s.b);
+        store(&mut ram[..n], script::low(s.a), script::low(s.b));
         return;
     }
-    load(&ram[..n], s.a);
+    load(&ram[..n], script::low(s.a));
 }

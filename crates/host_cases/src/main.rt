@@ -34,7 +34,7 @@ fn calls(r: Session) {
 
 // Page 2 is in the TLB before the session, so that a flush of page 1 leaves something to the flush of all. A count that is not what the
 // configuration gives makes the state unfit.
-fn started(ram: &mut [u8], count: u32) -> Mmu {
+fn started(ram: &mut [u8], count: u64) -> Mmu {
     let mut m = mmu_tell::kept(mmu::new(mmu_tell::config(4, 4, 0)));
     m.satp.raw = 0x8000_0001;
     m.enabled = true;
@@ -55,7 +55,7 @@ fn session(ram: &mut [u8], s: Step) {
     mmu_tell::answered(q, said);
     state(t.mmu);
     calls(r);
-    tell::word(ram, 0x2004);
+    tell::word(ram, 0x2004, false);
     show::end();
 }
 
@@ -63,7 +63,7 @@ fn perform(ram: &mut [u8], s: Step) {
     let op = s.op;
     match op {
         b'#' => (),
-        b'w' => tell::put(ram, s.a, s.b),
+        b'w' => tell::put(ram, s.a, s.b, s.wide),
         b'h' => session(ram, s),
         _ => script::bad_line(),
     }

@@ -50,6 +50,25 @@ module _ (good : Bool) (image : List ℕ) (call : Mmu → Kept) where
   unfolding calledOn laidOut onGrant
   called-good e f = rw (e, f)
 
+-- ---- what is laid out
+
+module _ (good : Bool) (said : Said) where
+  pub given-bad : good ≡ false → laidOut good said ≡ Refused BadLayout
+  unfolding laidOut
+  given-bad e = rw e
+
+  pub given-refused : {why : Refusal} → said ≡ Refused why → laidOut good said ≡ Refused (cond good why BadLayout)
+  unfolding laidOut
+  given-refused {why} e = rw e (go good)
+    where
+      go : (b : Bool) → cond b (Refused why) (Refused BadLayout) ≡ Refused (cond b why BadLayout)
+      go true = refl
+      go false = refl
+
+  pub given-good : good ≡ true → said ≡ Granted → laidOut good said ≡ Granted
+  unfolding laidOut
+  given-good e f = rw (e, f)
+
 -- a configuration has its six bytes
 pub config-room : (config : List ℕ) → configGiven config ≡ true → 6 ≤ length config
 config-room config e =

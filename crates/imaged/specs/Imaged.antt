@@ -1,7 +1,7 @@
 -- Calls on a state that is held as its image: what each answers, and what it leaves in the image. Schemes and configurations are the bundle's
--- bytes. 8 is given where bytes are no image, or have another length.
+-- bytes. 8 is given where bytes are no image, or have another length. One access is in Accesses.antt.
 use Prim.Native.Nat.{ℕ}
-use mathlib.Core.Bool.{Bool, cond, _&&_}
+use mathlib.Core.Bool.{Bool, true, cond, _&&_}
 use mathlib.Core.List.{List}
 use lib.Dec.{eqb, leb}
 use lib.ListN.{length}
@@ -10,7 +10,7 @@ use Rattle.scheme.specs.declared.refusal.Refusal.the-variants.{BadLayout}
 use Rattle.scheme.specs.declared.refusal.Said.{Said}
 use Rattle.scheme.specs.declared.refusal.Said.the-variants.{Granted, Refused}
 use Rattle.state.specs.declared.Mmu.{Mmu}
-use Rattle.mmu.specs.Calls.{refusedWith, setSchemeOf, reconfigureOf}
+use Rattle.mmu.specs.Calls.{refusedWith, setSchemeOf, reconfigureOf, flushOf, flushVaddrOf}
 use Rattle.mmu.specs.declared.Kept.{Kept}
 use Rattle.layout.specs.Layout.{byteAt}
 use Rattle.bundle.specs.Parts.{schemeAt, configAt}
@@ -30,7 +30,7 @@ laidOut good next = cond good next (Refused BadLayout)
 unfoldable pub keptIn : Kept → List ℕ → List ℕ
 keptIn k image = onGrant (k .said) (putState (k .mmu) image) image
 
--- ---- a scheme, or a configuration
+-- ---- a scheme, a configuration, a flush
 
 -- a call on the image's state, if the image and the call's own bytes are laid out
 unfoldable pub calledOn : Bool → List ℕ → (Mmu → Kept) → Kept
@@ -49,3 +49,9 @@ configGiven config = eqb (length config) 6 && leb (byteAt config 3) 5
 
 abbrev pub configuredOf : List ℕ → List ℕ → Kept
 configuredOf image config = calledOn (configGiven config) image (λ m. reconfigureOf m (configAt config 0))
+
+abbrev pub flushedOf : List ℕ → Kept
+flushedOf image = calledOn true image (λ m. flushOf m)
+
+abbrev pub flushedAtOf : List ℕ → ℕ → Kept
+flushedAtOf image va = calledOn true image (λ m. flushVaddrOf m va)

@@ -1,1 +1,2 @@
 pub mod Imaged
+pub mod Accesses

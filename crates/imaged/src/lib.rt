@@ -1,9 +1,16 @@
-// Calls on a state that is held as its image, as a host in another language keeps it: a scheme, or a configuration.
+// Calls on a state that is held as its image, as a host in another language keeps it: a scheme, a configuration, a flush, one access.
 use mmu::Kept;
 use scheme::Refusal;
 use scheme::Said;
 ghost use mathlib.Core.Path.{_≡_};
-ghost use Rattle.imaged.specs.Imaged.{saidNumber, laidOut, keptIn, schemedOf, configGiven, configuredOf};
+ghost use Rattle.imaged.specs.Imaged.{saidNumber, laidOut, keptIn, schemedOf, configGiven, configuredOf, flushedOf, flushedAtOf};
+
+mod accesses;
+
+pub use accesses::access_by;
+pub use accesses::access_given;
+pub use accesses::put_told;
+pub use accesses::translate;
 
 // The refusal's number, or 0.
 pub fn said_number(said: Said) -> u32
@@ -87,6 +94,40 @@ pub fn reconfigure(image: &mut [u8], config: &[u8]) -> u32
             let m = got.mmu;
             let c = bundle::config_at(config, 0);
             let k = mmu::reconfigure(m, c);
+            keep(k, image)
+        }
+    }
+}
+
+// `mmu::flush` on an image.
+pub fn flush(image: &mut [u8]) -> u32
+    ensures { λ r. ⌜ (r ≡ saidNumber (flushedOf (now (image .entry)) .said))
+        × (now (image .exit) ≡ keptIn (flushedOf (now (image .entry))) (now (image .entry))) ⌝ }
+{
+    let got = image_read::state_in(image);
+    let said = got.said;
+    match said {
+        Said::Refused(why) => 8,
+        Said::Granted => {
+            let m = got.mmu;
+            let k = mmu::flush(m);
+            keep(k, image)
+        }
+    }
+}
+
+// `mmu::flush_vaddr` on an image.
+pub fn flush_vaddr(image: &mut [u8], vaddr: u64) -> u32
+    ensures { λ r. ⌜ (r ≡ saidNumber (flushedAtOf (now (image .entry)) vaddr .said))
+        × (now (image .exit) ≡ keptIn (flushedAtOf (now (image .entry)) vaddr) (now (image .entry))) ⌝ }
+{
+    let got = image_read::state_in(image);
+    let said = got.said;
+    match said {
+        Said::Refused(why) => 8,
+        Said::Granted => {
+            let m = got.mmu;
+            let k = mmu::flush_vaddr(m, vaddr);
             keep(k, image)
         }
     }

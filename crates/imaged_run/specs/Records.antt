@@ -6,7 +6,8 @@ use mathlib.Core.List.{List}
 use lib.Dec.{eqb, leb, ltb}
 use lib.ListN.{length}
 use Rattle.scheme.specs.Refusals.{onGrant}
-use Rattle.scheme.specs.declared.refusal.Refusal.the-variants.{Unfit}
+use Rattle.scheme.specs.Scheme.{boughtOf}
+use Rattle.scheme.specs.declared.refusal.Refusal.the-variants.{BadScheme, Unfit}
 use Rattle.scheme.specs.declared.refusal.Said.{Said}
 use Rattle.scheme.specs.declared.refusal.Said.the-variants.{Granted, Refused}
 use Rattle.state.specs.State.{fitOf}
@@ -28,11 +29,11 @@ unfoldable pub recordsGiven : List ℕ → Bool
 recordsGiven records =
     leb (length records) 24000 && (eqb (length records % 8) 0 && recordsOk 8 records 0 (length records / 8))
 
--- 3 where the state is unfit
+-- 3 where the state is unfit, then 1 where its scheme is none of document 01's: a bundle's records have addresses of 32 bits
 unfoldable pub fitSaid : Mmu → Said
-fitSaid m = cond (fitOf m) Granted (Refused Unfit)
+fitSaid m = cond (fitOf m) (cond (boughtOf (m .scheme)) Granted (Refused BadScheme)) (Refused Unfit)
 
--- 8, then 3: "every call on a state tests 3 first"; once the first is granted no other is refused
+-- 8, then 3, then 1: "every call on a state tests 3 first"; once the first is granted no other is refused
 unfoldable pub openedSaid : List ℕ → List ℕ → Said
 openedSaid image records =
     firstOf (laidOut (recordsGiven records) (stateRead image .said)) (fitSaid (stateRead image .mmu))

@@ -33,11 +33,14 @@ fn records_given(records: &[u8]) -> bool
 fn fit_said(m: Mmu) -> Said
     ensures { λ r. ⌜ r ≡ fitSaid m ⌝ }
 {
-    if state::fits(m) {
-        Said::Granted
-    } else {
-        Said::Refused(Refusal::Unfit)
+    if !state::fits(m) {
+        return Said::Refused(Refusal::Unfit);
     }
+    let s = m.scheme;
+    if !s.is_bought() {
+        return Said::Refused(Refusal::BadScheme);
+    }
+    Said::Granted
 }
 
 // The image's state, and what a list of records on it is refused with.

@@ -21,7 +21,7 @@ fn put_word(ram: &mut [u8], at: u32, word: u32)
     requires { ⌜ (at + 4 ≤ length (now ram)) × (length (now ram) ≤ 2 ^ 32) ⌝ }
     ensures { λ _. ⌜ now (ram .exit) ≡ putAt 4 (now (ram .entry)) at word ⌝ }
 {
-    memory::store(ram, at as u64, 4, 32, word as u64);
+    memory::store32(ram, at, word);
 }
 
 // Where in a stretch of len bytes, which ends with its table, an entry's word is.

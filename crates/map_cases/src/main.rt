@@ -12,9 +12,9 @@ ghost use Prim.Native.Nat.{_<_};
 // before.
 struct Setting {
     scheme: PagingScheme,
-    kind: u32,
-    flags: u32,
-    mib: u32,
+    kind: u64,
+    flags: u64,
+    mib: u64,
     fill: u8,
 }
 
@@ -49,11 +49,11 @@ fn said(s: Said) {
 fn body(t: Setting, s: Step) -> MapBody {
     let mut bytes = [0u8; 20];
     let head = s.d % 256 + 0x100 * (t.kind % 256) + 0x1_0000 * (t.flags % 256);
-    tell::put(&mut bytes, 0, head);
-    tell::put(&mut bytes, 4, t.mib);
-    tell::put(&mut bytes, 8, s.a);
-    tell::put(&mut bytes, 12, s.b);
-    tell::put(&mut bytes, 16, s.c);
+    tell::put(&mut bytes, 0, head, false);
+    tell::put(&mut bytes, 4, t.mib, false);
+    tell::put(&mut bytes, 8, s.a, false);
+    tell::put(&mut bytes, 12, s.b, false);
+    tell::put(&mut bytes, 16, s.c, false);
     bundle::body_at(&bytes, 0)
 }
 
@@ -65,9 +65,9 @@ fn install(t: Setting, s: Step) {
     let b = body(t, s);
     let spec = b.spec;
     let window = b.window;
-    said(installer::install_map_scheme(&mut ram, s.a, scheme, spec, window));
-    tell::word(&ram, s.a);
-    tell::word(&ram, 0xf000);
+    said(installer::install_map_scheme(&mut ram, b.root, scheme, spec, window));
+    tell::word(&ram, s.a, false);
+    tell::word(&ram, 0xf000, false);
     show::hex(digest(&ram) as u64);
     show::end();
 }

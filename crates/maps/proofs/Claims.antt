@@ -13,15 +13,15 @@ use Rattle.scheme.specs.Scheme.{widthsOf}
 use Rattle.plan.specs.Map.{planOf}
 use Rattle.plan.specs.Levels.{roomAt}
 use lib.ListN.{length}
-use Rattle.maps.proofs.Sums.{reaches, sent, whole-address}
+use Rattle.maps.proofs.Sums.{reaches, not-ours, sent, unsent, whole-address}
 use Rattle.maps.proofs.Rules.{said-same, ram-same}
 use Rattle.maps.proofs.Edges.{p11}
 
 pub the-sum : TheSum
-the-sum s m win root ram ok va small = reaches s m win root ram ok va small
+the-sum s m win root ram ok va = (reaches s m win root ram ok va, not-ours s m win root ram ok va)
 
 pub every-access-is-sent : EveryAccessIsSent
-every-access-is-sent s m win root ram ok q = sent s m win root ram ok q
+every-access-is-sent s m win root ram ok q = (sent s m win root ram ok q, unsent s m win root ram ok q)
 
 pub the-sum-is-the-address : TheSumIsTheAddress
 the-sum-is-the-address s m win root ram ok e va small = whole-address s m win root ram ok e va small

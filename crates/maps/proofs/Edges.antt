@@ -4,7 +4,7 @@ use mathlib.Core.Path.{_≡_, refl, ap, _∙_}
 use mathlib.Core.List.{List}
 use lib.ListN.{length}
 use Rattle.memory.specs.Word.{leAt}
-use Rattle.scheme.specs.Scheme.{total, okWidths, validOf, widthsOf, sv32Scheme, boughtOf, isSv39, addressBits}
+use Rattle.scheme.specs.Scheme.{total, okWidths, widthsOf, sv32Scheme, boughtOf}
 use Rattle.scheme.specs.declared.refusal.Said.the-variants.{Granted}
 use Rattle.walker.specs.Descent.{frame}
 use Rattle.plan.specs.declared.MapRule.{MapRule}
@@ -18,12 +18,12 @@ use Rattle.maps.proofs.Holds.{Holds}
 use Rattle.maps.proofs.Sums.{holds-all}
 
 granted11 : (r : MapRule) → refusalOf sv32Scheme (map11 r) window11 65536 69632 ≡ Granted
-unfolding refusalOf refuseIf boughtOf validOf isSv39 addressBits okWidths total barred roomAt room sumFrom opens planOf
+unfolding refusalOf refuseIf boughtOf okWidths total barred roomAt room sumFrom opens planOf
 granted11 Relative = refl
 granted11 Absolute = refl
 
 pub p12 : P12
-unfolding refusalOf refuseIf boughtOf validOf isSv39 addressBits okWidths total
+unfolding refusalOf refuseIf boughtOf okWidths total
 p12 ram e r = ap (λ (n : ℕ). refusalOf sv32Scheme (map11 r) window11 65536 n) e
 
 -- the words that the list of writes gives

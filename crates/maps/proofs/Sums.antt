@@ -8,20 +8,23 @@ use mathlib.Core.List.{List, [], _∷_}
 use lib.ListN.{length, drop}
 use lib.Pow.{pow-pos, shl-shr}
 use Rattle.pte.specs.Entry.{ppnOf}
-use Rattle.scheme.specs.Scheme.{total, widthsOf, sv32}
+use Rattle.scheme.specs.Scheme.{total, widthsOf, sv32, formatOf}
+use Rattle.scheme.specs.declared.Format.{Format}
 use Rattle.scheme.specs.declared.PagingScheme.{PagingScheme}
 use Rattle.scheme.specs.declared.refusal.Said.the-variants.{Granted}
-use Rattle.scheme.proofs.Widths.{valid, bought, all-32, in-sv32}
-use Rattle.walker.proofs.Cases.{right-top}
-use borrow.Author.Tests.{eq-eqb}
-use Rattle.walker.specs.Descent.{frame, descentOf, ended, seek, topOk}
+use Rattle.scheme.proofs.Widths.{valid, bought, all-32, not-sv39, in-sv32}
+use Rattle.walker.specs.Descent.{frame, descentOf, ended, seek}
 use Rattle.walker.specs.declared.End.the-variants as End
+use Rattle.walker.specs.declared.Reason.the-variants.{WrongTop}
+use Rattle.walker.proofs.Cases.{right-top, wrong-top}
 use Rattle.bits.specs.Bits.{withLow}
 use Rattle.walk.specs.Answer.{physicalOf}
 use Rattle.walk.specs.Verdict.{leafJudged, judgeOf, walkOf}
 use Rattle.walk.specs.declared.Access.{Access}
+use Rattle.walk.specs.declared.Verdict.the-variants.{Fault}
 use Rattle.walk.specs.Rights.{allows, openTo}
 use Rattle.walk.proofs.Judged.{no-right, privilege, allowed, at-leaf}
+use Rattle.walks.proofs.Claims.{top-of-01}
 use Rattle.plan.specs.declared.MapRule.{MapRule}
 use Rattle.plan.specs.declared.MapRule.the-variants.{Relative, Absolute}
 use Rattle.plan.specs.declared.PageMapSpec.{PageMapSpec}
@@ -34,7 +37,7 @@ use Rattle.plan.proofs.Rows.{tableOf, tables-in, in-wider}
 use Rattle.installer.specs.Install.{NoneBefore7, installSaid, installRam}
 use Rattle.installer.proofs.Install.{flags-small, granted, laid}
 use Rattle.maps.specs.Way.{firstNot, leafLevel, leafShift, leafFrame, baseOn, baseBy}
-use Rattle.maps.specs.Claims.{Reaches, Sent}
+use Rattle.maps.specs.Claims.{Reaches, NotOurs, Sent}
 use Rattle.maps.proofs.Fields as fields
 use Rattle.maps.proofs.Apart.{tables-distinct}
 use Rattle.maps.proofs.Holds.{Holds, survive, tables-words}
@@ -93,11 +96,17 @@ module _ (s : PagingScheme) (m : PageMapSpec) (win : Window) (root : ℕ) (ram :
         walk-found (planOf s m win) (m .perms) (m .global) refl (passes .0 .rights) (v .offset-low) (installRam s m win root ram) va (widthsOf s) 0 root 0
         (some-level (widthsOf s) (s .«offset_bits») (v .offset-high) (all-32 s (passes .0 .valid))) (passes .0 .aligned) holds-all
 
-    -- the top of a 32-bit address is clear
+    -- the top of a 32-bit address is right, and of any other wrong
     whole-way : va < 2 ^ 32 → seek sv32 (installRam s m win root ram) va (s .«offset_bits») (widthsOf s) 0 (root / 4096) ≡ descentOf (installRam s m win root ram) (root / 4096) s va
-    unfolding descentOf topOk
+    unfolding descentOf
     whole-way small =
-        rw (in-sv32 s (passes .0 .valid)) (right-top sv32 _ va _ _ _ (rw (eq-eqb (va / 2 ^ 32) 0 (omega arith))))
+        let top = top-of-01 s (not-sv39 s (passes .0 .valid)) va .0 small in
+        ap (λ (f : Format). seek f (installRam s m win root ram) va (s .«offset_bits») (widthsOf s) 0 (root / 4096)) (sym (in-sv32 s (passes .0 .valid)))
+        ∙ right-top (formatOf s) _ va _ _ _ top
+
+    pub not-ours : 2 ^ 32 ≤ va → NotOurs s m win root ram va
+    unfolding descentOf
+    not-ours high = sym (wrong-top (formatOf s) _ va _ _ _ (top-of-01 s (not-sv39 s (passes .0 .valid)) va .1 high))
 
     pub reaches : va < 2 ^ 32 → Reaches s m win root ram va
     unfolding planOf frame
@@ -161,3 +170,8 @@ module _ (s : PagingScheme) (m : PageMapSpec) (win : Window) (root : ℕ) (ram :
     no-privilege = λ a e. sym judged ∙ sym (privilege q _ (ap not (ap (allows (q .kind)) (here .perms-are) ∙ a)) (ap not (ap (openTo (q .mode)) (here .perms-are) ∙ e)));
     goes = λ a e. (_, (sym judged ∙ sym (allowed q _ (ap not (ap (allows (q .kind)) (here .perms-are) ∙ a)) (ap not (ap (openTo (q .mode)) (here .perms-are) ∙ e))), lands));
   }
+
+pub unsent : (s : PagingScheme) (m : PageMapSpec) (win : Window) (root : ℕ) (ram : List ℕ) → installSaid s m win root ram ≡ Granted → (q : Access)
+    → 2 ^ 32 ≤ q .vaddr → walkOf s (root / 4096) (installRam s m win root ram) q ≡ Fault WrongTop 0
+unfolding judgeOf
+unsent s m win root ram ok q high = ap (judgeOf q) (not-ours s m win root ram ok (q .vaddr) high)

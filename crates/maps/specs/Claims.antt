@@ -6,14 +6,13 @@ use mathlib.Core.Bool.{true, false}
 use mathlib.Core.List.{List}
 use lib.ListN.{length, getD}
 use Rattle.pte.specs.Entry.{permsOf, globalBit, ppnOf}
-use Rattle.scheme.specs.Scheme.{widthsOf, shiftOf, sv32Scheme}
+use Rattle.scheme.specs.Scheme.{widthsOf, shiftOf, sv32, sv32Scheme}
 use Rattle.scheme.specs.declared.PagingScheme.{PagingScheme}
 use Rattle.scheme.specs.declared.refusal.Refusal.the-variants.{NoRoom}
 use Rattle.scheme.specs.declared.refusal.Said.the-variants.{Granted, Refused}
-use Rattle.scheme.specs.Scheme.{sv32}
 use Rattle.walker.specs.Descent.{frame, ended, descentOf}
 use Rattle.walker.specs.declared.End.the-variants as End
-use Rattle.walker.specs.declared.Reason.the-variants.{NoRight, Privilege}
+use Rattle.walker.specs.declared.Reason.the-variants.{NoRight, Privilege, WrongTop}
 use Rattle.walk.specs.Answer.{physicalOf}
 use Rattle.walk.specs.Rights.{allows, openTo}
 use Rattle.walk.specs.Verdict.{walkOf}
@@ -47,11 +46,16 @@ pub record Reaches (s : PagingScheme) (m : PageMapSpec) (win : Window) (root : �
   pub perms-are : permsOf word ≡ m .perms
   pub global-is : globalBit word ≡ m .global
 
+-- an address of more than 32 bits is none of the scheme's: its top is wrong
+abbrev pub NotOurs : PagingScheme → PageMapSpec → Window → ℕ → List ℕ → ℕ → Type 0
+NotOurs s m win root ram va =
+    descentOf (installRam s m win root ram) (root / 4096) s va ≡ ended (End.Stop WrongTop) (shiftOf (s .«offset_bits») (widthsOf s) 0) 0
+
 -- "A leaf's frame is its base plus delta, cut down to the leaf's page size", under both rules ("Both windows and leaves use it")
 abbrev pub TheSum : Type 0
 TheSum =
     (s : PagingScheme) (m : PageMapSpec) (win : Window) (root : ℕ) (ram : List ℕ) → installSaid s m win root ram ≡ Granted
-    → (va : ℕ) → va < 2 ^ 32 → Reaches s m win root ram va
+    → (va : ℕ) → (va < 2 ^ 32 → Reaches s m win root ram va) × (2 ^ 32 ≤ va → NotOurs s m win root ram va)
 
 -- a walk over the installed RAM: it faults for no other reason than right and privilege, and else sends the address to that frame
 -- "with the low (shift) bits taken from the virtual address"
@@ -69,7 +73,9 @@ pub record Sent (s : PagingScheme) (m : PageMapSpec) (win : Window) (root : ℕ)
 abbrev pub EveryAccessIsSent : Type 0
 EveryAccessIsSent =
     (s : PagingScheme) (m : PageMapSpec) (win : Window) (root : ℕ) (ram : List ℕ) → installSaid s m win root ram ≡ Granted
-    → (q : Access) → q .vaddr < 2 ^ 32 → Sent s m win root ram q
+    → (q : Access)
+    → (q .vaddr < 2 ^ 32 → Sent s m win root ram q)
+    × (2 ^ 32 ≤ q .vaddr → walkOf s (root / 4096) (installRam s m win root ram) q ≡ Fault WrongTop 0)
 
 -- under the absolute rule the sum along the path is the address itself, cut down to the leaf's page
 abbrev pub TheSumIsTheAddress : Type 0

@@ -7,7 +7,7 @@ use mathlib.Core.Bool.{Bool, true, false, _&&_, cond}
 use mathlib.Core.List.{List}
 use lib.ListN.{length, getD, set}
 use lib.Dec.{leb, lit<}
-use lib.Pow.{shl-exact}
+use lib.Pow.{shl-exact, pow-mono}
 use borrow.Author.Tests.{leb-true, le-leb, lt-leb}
 use Rattle.memory.specs.Word.{readable, leAt, putAt, wordAt, storeIn}
 use Rattle.memory.specs.declared.Word.the-variants.{Is, Unreadable}
@@ -32,6 +32,12 @@ past bits n ram a h = rw (lt-leb (a + n) (length ram) h)
 pub within : (bits n : ℕ) (ram : List ℕ) (a : ℕ) → a + n ≤ length ram → bits < 64 → leb (a + n) (1 * 2 ^ bits % 2 ^ 64) ≡ readable bits n ram a
 unfolding readable
 within bits n ram a h k = rw (le-leb (a + n) (length ram) h, shl-exact {a = 1} 1 bits 64 (lit< tt) (omega arith), one-mul (2 ^ bits))
+
+-- no end in RAM passes 2^64
+pub always : (bits n : ℕ) (ram : List ℕ) (a : ℕ) → a + n ≤ length ram → 63 < bits → length ram < 2 ^ 64 → true ≡ readable bits n ram a
+unfolding readable
+always bits n ram a h k l =
+    rw (le-leb (a + n) (length ram) h, le-leb (a + n) (2 ^ bits) (omega (arith, pow-mono {i = 64} {j = bits} (omega arith))))
 
 -- a word is read from its last byte down, and written from its first byte up
 pub load-step : (n k i v : ℕ) (ram : List ℕ) → 0 < k → k ≤ n → v ≡ leAt (n - k) ram (i + k)

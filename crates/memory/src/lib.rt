@@ -17,7 +17,6 @@ fn wide(b: u8) -> u64
 
 // Whether all n bytes at `a` lie in RAM and below 2^bits.
 pub fn is_readable(ram: &[u8], a: u64, n: u8, bits: u8) -> bool
-    requires { ⌜ bits < 64 ⌝ }
     ensures { λ r. ⌜ r ≡ readable bits n (now (ram .entry)) a ⌝ }
 {
     let len = ram.len() as u64;
@@ -29,6 +28,9 @@ pub fn is_readable(ram: &[u8], a: u64, n: u8, bits: u8) -> bool
     if last < a {
         return false;
     }
+    if 63 < bits {
+        return true;
+    }
     let end = a + size;
     let limit = 1u64 << bits;
     end <= limit
@@ -36,7 +38,7 @@ pub fn is_readable(ram: &[u8], a: u64, n: u8, bits: u8) -> bool
 
 // The word at `a`, if it is readable.
 pub fn load(ram: &[u8], a: u64, n: u8, bits: u8) -> Word
-    requires { ⌜ (n ≤ 8) × (bits < 64) ⌝ }
+    requires { ⌜ n ≤ 8 ⌝ }
     ensures { λ r. ⌜ r ≡ wordAt bits n (now (ram .entry)) a ⌝ }
 {
     if !is_readable(ram, a, n, bits) {
@@ -57,7 +59,6 @@ pub fn load(ram: &[u8], a: u64, n: u8, bits: u8) -> Word
 
 // Writes the n low bytes of `v` at `a` if the word there is readable, and tells whether it did.
 pub fn store(ram: &mut [u8], a: u64, n: u8, bits: u8, v: u64) -> bool
-    requires { ⌜ bits < 64 ⌝ }
     ensures { λ r. ⌜ (r ≡ readable bits n (now (ram .entry)) a) × (now (ram .exit) ≡ storeIn bits n (now (ram .entry)) a v) ⌝ }
 {
     if !is_readable(ram, a, n, bits) {

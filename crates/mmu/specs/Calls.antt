@@ -9,7 +9,7 @@ use Rattle.scheme.specs.Scheme.{validOf}
 use Rattle.scheme.specs.Satp.{modeOf}
 use Rattle.scheme.specs.declared.PagingScheme.{PagingScheme}
 use Rattle.scheme.specs.declared.satp.SatpMode.{SatpMode}
-use Rattle.scheme.specs.declared.satp.SatpMode.the-variants.{Bare, Sv32, Sv39, Unknown}
+use Rattle.scheme.specs.declared.satp.SatpMode.the-variants.{Bare, Paged, Neither}
 use Rattle.scheme.specs.declared.refusal.Refusal.{Refusal}
 use Rattle.scheme.specs.declared.refusal.Refusal.the-variants.{BadScheme, TooManyEntries, Unfit, BadMode}
 use Rattle.scheme.specs.declared.refusal.Said.the-variants as Said
@@ -56,9 +56,8 @@ flushVaddrOf m va = ifFit m (grantedWith (withTlb m (tlbFlushVaddr (m .tlb) va))
 -- not "a satp mode that is neither"
 abbrev pub isKnown : SatpMode → Bool
 isKnown Bare = true
-isKnown Sv32 = true
-isKnown Sv39 = true
-isKnown Unknown = false
+isKnown Paged = true
+isKnown Neither = false
 
 unfoldable pub modeKnown : PagingScheme → ℕ → Bool
 modeKnown s raw = isKnown (modeOf s raw)

@@ -150,9 +150,8 @@ fn is_known(mode: SatpMode) -> bool
 {
     match mode {
         SatpMode::Bare => true,
-        SatpMode::Sv32 => true,
-        SatpMode::Sv39 => true,
-        SatpMode::Unknown => false,
+        SatpMode::Paged => true,
+        SatpMode::Neither => false,
     }
 }
 

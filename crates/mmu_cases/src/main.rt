@@ -13,7 +13,7 @@ fn call(m: Mmu, s: Step) -> Kept {
         b'p' => mmu::set_scheme(m, tell::scheme_of(s.a, s.b, s.c)),
         b'r' => mmu::reconfigure(m, mmu_tell::config(s.a, s.b, s.c)),
         b'f' => mmu::flush(m),
-        _ => mmu::flush_vaddr(m, s.a as u64),
+        _ => mmu::flush_vaddr(m, s.a),
     }
 }
 
@@ -21,18 +21,17 @@ fn call(m: Mmu, s: Step) -> Kept {
 fn set(m: Mmu, s: Step) -> Mmu {
     let op = s.op;
     let value = s.a;
-    let wide = value as u64;
     let i = (s.b % 128) as usize;
     let mut t = m.tlb;
     let mut n = m;
     match op {
-        b's' => n.satp.raw = wide,
+        b's' => n.satp.raw = value,
         b'e' => {
             n.enabled = value & 1 != 0;
             n.force_translate = value & 2 != 0;
             n.tlb_enabled = value & 4 != 0;
         }
-        b'g' => t.age_counter = value,
+        b'g' => t.age_counter = script::low(value),
         b'k' => t.entries[i].mask_bits = (value % 256) as u8,
         _ => t.count = value as usize,
     }
@@ -45,7 +44,7 @@ fn perform(m: Mmu, ram: &mut [u8], s: Step) -> Mmu {
     let op = s.op;
     match op {
         b'#' => (),
-        b'w' => tell::put(ram, s.a, s.b),
+        b'w' => tell::put(ram, s.a, s.b, s.wide),
         b'i' => mmu_tell::slot(m, s.a),
         b'c' => mmu_tell::tallies(m),
         b'a' => return mmu_tell::access(m, ram, tell::asked(s.a, s.b, s.c)),

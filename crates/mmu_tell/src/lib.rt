@@ -11,7 +11,7 @@ use tlb::TlbStats;
 use walk::Access;
 
 // The policies, by the trace bundle's numbers.
-fn policy_of(n: u32) -> ReplacementPolicy {
+fn policy_of(n: u64) -> ReplacementPolicy {
     match n {
         0 => ReplacementPolicy::Lru,
         1 => ReplacementPolicy::Mru,
@@ -23,7 +23,7 @@ fn policy_of(n: u32) -> ReplacementPolicy {
 }
 
 // A configuration with a hit latency of 1 and a miss penalty of 20.
-pub fn config(entries: u32, ways: u32, policy: u32) -> TlbConfig {
+pub fn config(entries: u64, ways: u64, policy: u64) -> TlbConfig {
     TlbConfig {
         entry_count: (entries % 65536) as u16,
         associativity: (ways % 256) as u8,
@@ -98,7 +98,7 @@ fn entry(e: TlbEntry) {
     show::end();
 }
 
-pub fn slot(m: Mmu, at: u32) {
+pub fn slot(m: Mmu, at: u64) {
     let i = (at % 128) as usize;
     let t = m.tlb;
     entry(t.entries[i]);

@@ -1,6 +1,7 @@
 -- A proof of each statement in specs/Claims.antt.
 use Rattle.order.specs.Claims.{AnyOrder, StartIsEmpty, EndBytes, CallsFit, NeverRefused, TalliesAddUp}
-use Rattle.order.proofs.Fit.{run-granted, run-fit}
+use Rattle.mmu.proofs.Refusing.{neither-39}
+use Rattle.order.proofs.Fit.{run-granted, run-refused, run-fit, mode-known}
 use Rattle.order.proofs.Order as order
 use Rattle.order.proofs.Calls as calls
 use Rattle.order.proofs.EndBytes as bytes
@@ -19,7 +20,11 @@ pub calls-fit : CallsFit
 calls-fit = calls.calls-fit
 
 pub never-refused : NeverRefused
-never-refused es m ram fit known = (run-granted es m ram fit known, run-fit es m ram fit known)
+never-refused es m ram fit = record {
+  none = λ g. run-granted es m ram fit (mode-known (m .scheme) (m .satp .raw) g);
+  ten = λ e a b. run-refused es m ram fit (neither-39 (m .scheme) (m .satp .raw) e a b);
+  fit = run-fit es m ram fit;
+}
 
 pub tallies-add-up : TalliesAddUp
 tallies-add-up = tallies.add-up

@@ -1,12 +1,15 @@
--- Fitness is kept by every event, the settings stay, and nothing is refused.
+-- Fitness is kept by every event, the settings stay, and nothing is refused but accesses with 10.
 use Prim.Native.Nat.{ℕ, _≤_}
-use mathlib.Core.Path.{_≡_, refl, sym, subst, _∙_}
+use mathlib.Core.Path.{_≡_, refl, sym, ap, subst, _∙_}
 use mathlib.Core.Bool.{Bool, true, false, cond}
-use mathlib.Core.List.{List, [], _∷_}
+use mathlib.Core.List.{List, [], _∷_, map}
 use native.Mathlib.Omega.{arith}
 use Rattle.scheme.specs.Satp.{rootOf}
+use Rattle.scheme.specs.Scheme.{isSv39, boughtOf}
+use Rattle.scheme.specs.declared.PagingScheme.{PagingScheme}
 use Rattle.scheme.specs.declared.refusal.Refusal.{Refusal}
-use Rattle.scheme.proofs.Widths.{valid}
+use Rattle.scheme.specs.declared.refusal.Refusal.the-variants.{BadMode}
+use Rattle.scheme.proofs.Widths.{valid, not-sv39}
 use Rattle.walk.specs.declared.Access.{Access}
 use Rattle.walk.specs.declared.LeafAt.{LeafAt}
 use Rattle.walk.specs.declared.Verdict.the-variants.{Page}
@@ -17,15 +20,17 @@ use Rattle.caches.proofs.Claims.{install-fits, install-same, flush-fits, flush-
 use Rattle.state.specs.State.{withTlb, fitOf}
 use Rattle.access.specs.Translate.{tallied, madeOf, missWalk}
 use Rattle.mmu.specs.Calls.{modeKnown, flushOf, flushVaddrOf}
+use Rattle.mmu.proofs.Refusing.{known-01, known-39}
 use Rattle.state.specs.declared.Mmu.{Mmu}
 use Rattle.access.specs.declared.Served.{Served}
 use Rattle.session.specs.Session.{stepMmu, stepRam, endMmu}
 use Rattle.session.specs.declared.Settings.{Settings}
 use Rattle.session.specs.declared.Event.{Event}
 use Rattle.session.specs.declared.Event.the-variants.{Translate, Flush, FlushAt}
-use Rattle.order.specs.Runs.{settingsOf, outcomeRefusals, refusedBy, refusals}
+use Rattle.order.specs.Claims.{ModeGiven}
+use Rattle.order.specs.Runs.{settingsOf, accesses, outcomeRefusals, refusedBy, refusals}
 use Rattle.order.proofs.Pages.{shift-within}
-use Rattle.order.proofs.Serves.{fit-valid, tlb-fits, fit-held, filled, Case, Passes, Hits, Forbids, Leads, Ends, translate-case}
+use Rattle.order.proofs.Serves.{fit-valid, tlb-fits, fit-held, filled, Case, Passes, Hits, Forbids, Leads, Ends, translate-case, Turn, Refuses, Serves, translate-turn}
 
 -- ---- a TLB that may take the place of m's
 
@@ -93,6 +98,19 @@ module _ (m : Mmu) (fit : fitOf m ≡ true) where
     case-granted v ram′ (Leads h t k c l e) rest = refl
     case-granted v ram′ (Ends h t k c why level e) rest = refl
 
+    turn-fit : (v : Served) (ram′ : List ℕ) → Turn m q ram v ram′ → fitOf (v .mmu) ≡ true
+    turn-fit v ram′ (Refuses k) = fit
+    turn-fit v ram′ (Serves k u r c) = case-fit u r c
+
+    turn-settings : (v : Served) (ram′ : List ℕ) → Turn m q ram v ram′ → settingsOf (v .mmu) ≡ settingsOf m
+    turn-settings v ram′ (Refuses k) = refl
+    turn-settings v ram′ (Serves k u r c) = case-settings u r c
+
+    turn-refused : (v : Served) (ram′ : List ℕ) → Turn m q ram v ram′ → modeKnown (m .scheme) (m .satp .raw) ≡ false
+        → (rest : List Refusal) → outcomeRefusals (v .said .outcome) rest ≡ BadMode ∷ rest
+    turn-refused v ram′ (Refuses k) e rest = refl
+    turn-refused v ram′ (Serves k u r c) e rest = let z : _≡_ {A = ℕ} 0 1 = cc in absurd (omega arith)
+
   -- ---- an event
 
   pub flushed : flushOf m .mmu ≡ withTlb m (tlbFlush (m .tlb))
@@ -103,27 +121,39 @@ module _ (m : Mmu) (fit : fitOf m ≡ true) where
   unfolding flushVaddrOf
   flushed-at va = rw fit
 
-  module _ (known : modeKnown (m .scheme) (m .satp .raw) ≡ true) (ram : List ℕ) where
+  module _ (ram : List ℕ) where
     pub event-fit : (e : Event) → fitOf (stepMmu e m ram) ≡ true
-    event-fit (Translate q) = case-fit q ram _ _ (translate-case m q ram fit known)
+    event-fit (Translate q) = turn-fit q ram _ _ (translate-turn m q ram fit)
     event-fit Flush = rw flushed (fit-with _ (sits-same m _ _ sits-self (flush-same (m .tlb)) (flush-fits (m .tlb) (tlb-fits m fit))))
     event-fit (FlushAt va) =
         rw (flushed-at va) (fit-with _ (sits-same m _ _ sits-self (flush-vaddr-same (m .tlb) va) (flush-vaddr-fits (m .tlb) va (tlb-fits m fit))))
 
     pub event-settings : (e : Event) → settingsOf (stepMmu e m ram) ≡ settingsOf m
-    event-settings (Translate q) = case-settings q ram _ _ (translate-case m q ram fit known)
+    event-settings (Translate q) = turn-settings q ram _ _ (translate-turn m q ram fit)
     event-settings Flush = rw flushed
     event-settings (FlushAt va) = rw (flushed-at va)
 
     -- the settings stay, and with them the mode
-    pub event-known : (e : Event) → modeKnown (stepMmu e m ram .scheme) (stepMmu e m ram .satp .raw) ≡ true
-    event-known e = subst (λ (x : Settings). modeKnown (x .scheme) (x .satp) ≡ true) (sym (event-settings e)) known
+    pub event-mode : (e : Event) {b : Bool} → modeKnown (m .scheme) (m .satp .raw) ≡ b → modeKnown (stepMmu e m ram .scheme) (stepMmu e m ram .satp .raw) ≡ b
+    event-mode e {b} h = subst (λ (x : Settings). modeKnown (x .scheme) (x .satp) ≡ b) (sym (event-settings e)) h
 
-    event-granted : (e : Event) (rest : List Refusal) → refusedBy e m ram rest ≡ rest
+    event-granted : modeKnown (m .scheme) (m .satp .raw) ≡ true → (e : Event) (rest : List Refusal) → refusedBy e m ram rest ≡ rest
     unfolding refusedBy flushOf flushVaddrOf
-    event-granted (Translate q) rest = case-granted q ram _ _ (translate-case m q ram fit known) rest
-    event-granted Flush rest = rw fit
-    event-granted (FlushAt va) rest = rw fit
+    event-granted known (Translate q) rest = case-granted q ram _ _ (translate-case m q ram fit known) rest
+    event-granted known Flush rest = rw fit
+    event-granted known (FlushAt va) rest = rw fit
+
+    access-refused : modeKnown (m .scheme) (m .satp .raw) ≡ false → (q : Access) (rest : List Refusal) → refusedBy (Translate q) m ram rest ≡ BadMode ∷ rest
+    unfolding refusedBy
+    access-refused h q rest = turn-refused q ram _ _ (translate-turn m q ram fit) h rest
+
+    flush-granted : (rest : List Refusal) → refusedBy Flush m ram rest ≡ rest
+    unfolding refusedBy flushOf
+    flush-granted rest = rw fit
+
+    flush-at-granted : (va : ℕ) (rest : List Refusal) → refusedBy (FlushAt va) m ram rest ≡ rest
+    unfolding refusedBy flushVaddrOf
+    flush-at-granted va rest = rw fit
 
 -- ---- a run
 
@@ -131,9 +161,33 @@ pub run-granted : (es : List Event) (m : Mmu) (ram : List ℕ) → fitOf m ≡ t
 unfolding refusals
 run-granted [] m ram fit known = refl
 run-granted (e ∷ es) m ram fit known =
-    event-granted m fit known ram e _ ∙ run-granted es (stepMmu e m ram) (stepRam e m ram) (event-fit m fit known ram e) (event-known m fit known ram e)
+    event-granted m fit ram known e _ ∙ run-granted es (stepMmu e m ram) (stepRam e m ram) (event-fit m fit ram e) (event-mode m fit ram e known)
 
-pub run-fit : (es : List Event) (m : Mmu) (ram : List ℕ) → fitOf m ≡ true → modeKnown (m .scheme) (m .satp .raw) ≡ true → fitOf (endMmu es m ram) ≡ true
+pub run-refused : (es : List Event) (m : Mmu) (ram : List ℕ) → fitOf m ≡ true → modeKnown (m .scheme) (m .satp .raw) ≡ false
+    → refusals es m ram ≡ map (λ q. BadMode) (accesses es)
+unfolding refusals accesses
+run-refused [] m ram fit h = refl
+run-refused (Translate q ∷ es) m ram fit h =
+    access-refused m fit ram h q _
+    ∙ ap (λ (rest : List Refusal). BadMode ∷ rest) (run-refused es _ _ (event-fit m fit ram (Translate q)) (event-mode m fit ram (Translate q) h))
+run-refused (Flush ∷ es) m ram fit h = flush-granted m fit ram _ ∙ run-refused es _ _ (event-fit m fit ram Flush) (event-mode m fit ram Flush h)
+run-refused (FlushAt va ∷ es) m ram fit h =
+    flush-at-granted m fit ram va _ ∙ run-refused es _ _ (event-fit m fit ram (FlushAt va)) (event-mode m fit ram (FlushAt va) h)
+
+pub run-fit : (es : List Event) (m : Mmu) (ram : List ℕ) → fitOf m ≡ true → fitOf (endMmu es m ram) ≡ true
 unfolding endMmu
-run-fit [] m ram fit known = fit
-run-fit (e ∷ es) m ram fit known = run-fit es (stepMmu e m ram) (stepRam e m ram) (event-fit m fit known ram e) (event-known m fit known ram e)
+run-fit [] m ram fit = fit
+run-fit (e ∷ es) m ram fit = run-fit es (stepMmu e m ram) (stepRam e m ram) (event-fit m fit ram e)
+
+-- ---- the mode, by its number
+
+-- document 01's schemes have no other
+pub mode-01 : (s : PagingScheme) (satp : ℕ) → boughtOf s ≡ true → ModeGiven s satp
+mode-01 s satp b e = let n = not-sv39 s b in let z : _≡_ {A = ℕ} 0 1 = cc in absurd (omega arith)
+
+pub mode-known : (s : PagingScheme) (satp : ℕ) → ModeGiven s satp → modeKnown s satp ≡ true
+mode-known s satp g = go (isSv39 s) refl
+  where
+    go : (b : Bool) → isSv39 s ≡ b → modeKnown s satp ≡ true
+    go true e = known-39 s satp e (g e)
+    go false e = known-01 s satp e

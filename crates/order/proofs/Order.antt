@@ -11,7 +11,6 @@ use Rattle.walk.specs.declared.Access.{Access}
 use Rattle.walks.specs.Plain.{Bytes}
 use Rattle.state.specs.State.{fitOf}
 use Rattle.slots.specs.Slots.{entryAt}
-use Rattle.mmu.proofs.Refusing.{bought-known}
 use Rattle.mmu.specs.Calls.{modeKnown, translateOf, translateRam}
 use Rattle.state.specs.declared.Mmu.{Mmu}
 use Rattle.session.specs.Session.{startOf, stepMmu, stepRam, endRam}
@@ -24,7 +23,7 @@ use Rattle.order.specs.Claims.{Empty, PlainRun, AnyOrder, StartIsEmpty}
 use Rattle.order.proofs.Machine.{Step}
 use Rattle.order.proofs.Pages.{byteMarks, marks-byte, marks-bytes}
 use Rattle.order.proofs.Truth.{byteEarned, earned-comm, Truth, Sound, Right, step-right}
-use Rattle.order.proofs.Fit.{event-fit, event-known, event-settings, run-granted}
+use Rattle.order.proofs.Fit.{event-fit, event-mode, event-settings, run-granted, mode-known}
 use Rattle.order.proofs.Serves.{fit-valid}
 use Rattle.scheme.specs.Scheme.{validOf, formatOf}
 use Rattle.scheme.proofs.Levels.{modest}
@@ -88,7 +87,12 @@ module _ (s : Settings) (start : List ℕ) where
     good-sound (FlushAt va) = record { steady = g .sound .steady; truth = flush-at-keeps m (g .fit) (Truth s start ram) (g .sound .truth) va }
 
     good-after : (e : Event) → Good (stepMmu e m ram) (stepRam e m ram)
-    good-after e = record { fit = event-fit m (g .fit) (g .known) ram e; known = event-known m (g .fit) (g .known) ram e; settings = event-settings m (g .fit) (g .known) ram e ∙ g .settings; sound = good-sound e }
+    good-after e = record {
+      fit = event-fit m (g .fit) ram e;
+      known = event-mode m (g .fit) ram e (g .known);
+      settings = event-settings m (g .fit) ram e ∙ g .settings;
+      sound = good-sound e;
+    }
 
   answers-plain : (es : List Event) (m : Mmu) (ram : List ℕ) → Good m ram → answers es m ram ≡ map (plainAnswer s start) (accesses es)
   unfolding answers accesses
@@ -109,7 +113,7 @@ module _ (s : Settings) (start : List ℕ) where
 
   module _ (small : Bytes start) (m : Mmu) (h : Empty s m) where
     start-known : modeKnown (m .scheme) (m .satp .raw) ≡ true
-    start-known = subst (λ (x : Settings). modeKnown (x .scheme) (x .satp) ≡ true) (sym (h .settings)) (h .known)
+    start-known = subst (λ (x : Settings). modeKnown (x .scheme) (x .satp) ≡ true) (sym (h .settings)) (mode-known (s .scheme) (s .satp) (h .mode))
 
     good-start : Good m start
     good-start = record {
@@ -139,7 +143,7 @@ any-order s start small one two e₁ e₂ es fs p =
 pub start-is-empty : StartIsEmpty
 start-is-empty s ready config room = record {
   fit = start-fit s config ready room;
-  known = bought-known (s .scheme) (s .satp) (ready .valid);
+  mode = ready .mode;
   settings = start-settings s config ready room;
   none = λ i l. go (entryAt (startOf config s .tlb .entries) i .valid) (start-holds s config ready room (λ e. ⊥) i l);
 }

@@ -6,9 +6,8 @@ use mathlib.Core.List.{List}
 use native.Mathlib.Omega.{arith}
 use Rattle.pte.specs.Entry.{permsOf, ppnOf}
 use Rattle.scheme.specs.Access.{causeOf}
-use Rattle.scheme.specs.Scheme.{widthsOf, validOf, shiftOf, formatOf}
+use Rattle.scheme.specs.Scheme.{widthsOf, validOf, formatOf}
 use Rattle.scheme.specs.declared.Format.{Format}
-use Rattle.scheme.proofs.Widths.{valid, top-shift}
 use Rattle.scheme.proofs.Levels.{modest}
 use Rattle.scheme.specs.declared.PagingScheme.{PagingScheme}
 use Rattle.walker.specs.Descent.{ended, descentOf}
@@ -29,7 +28,7 @@ use Rattle.walks.specs.Plain.{plain, plainVerdict, Bytes}
 use Rattle.walks.proofs.Steady.{plain-plain, ppn-same, Same, descent-same}
 use Rattle.walks.proofs.Verdicts.{verdict-same}
 use Rattle.walks.proofs.Blocks.{whole-low, descent-high}
-use Rattle.walks.proofs.Claims.{ours-is-sound, blocks-end-alike}
+use Rattle.walks.proofs.Claims.{ours-is-sound, scheme-blocks}
 use Rattle.access.specs.Translate.{isStore}
 use Rattle.order.specs.Runs.{At, Faults}
 use Rattle.order.specs.Plain.{verdictHeard, verdictMarks}
@@ -161,8 +160,7 @@ module _ (s : PagingScheme) (root : ℕ) (ram : List ℕ) (p : Access) (l : Leaf
 
   -- an access to an address of the page is judged by the same leaf
   pub same-leaf : validOf s ≡ true → (q : Access) → q .vaddr / 2 ^ l .shift ≡ p .vaddr / 2 ^ l .shift → walkOf s root ram q ≡ leafJudged q l
-  unfolding descentOf judgeOf
+  unfolding judgeOf
   same-leaf ok q h =
       let k = rw (← shift-is) at h in
-      let fits : shiftOf (s .«offset_bits») (widthsOf s) 0 ≤ formatOf s .top = omega (arith, top-shift s (valid s ok), modest s .tall) in
-      ap (judgeOf q) (blocks-end-alike (formatOf s) (s .«offset_bits») (widthsOf s) root ram (p .vaddr) (q .vaddr) fits k ∙ down)
+      ap (judgeOf q) (scheme-blocks s root ram (p .vaddr) ok .alike (q .vaddr) k ∙ down)

@@ -8,6 +8,7 @@ use native.Mathlib.Omega.{arith}
 use Rattle.pte.specs.Entry.{ppnOf}
 use Rattle.scheme.specs.Satp.{asidOf}
 use Rattle.scheme.specs.Scheme.{validOf, formatOf}
+use Rattle.scheme.specs.declared.refusal.Refusal.the-variants.{BadMode}
 use Rattle.bits.proofs.Bools.{and-left, and-right}
 use Rattle.walker.specs.declared.Reason.{Reason}
 use Rattle.walk.specs.Answer.{markedBy, physicalOf, wordsOf}
@@ -30,6 +31,7 @@ use Rattle.state.specs.State.{withTlb, schemeHeld, fitOf}
 use Rattle.access.specs.Translate.{bypassed, tallied, vpnOf, mustWalk, decides, consultOf, okAt, faultOf, passedOf, entryPermits, foundServed}
 use Rattle.access.specs.Translate.{madeOf, walkServed, missWalk, lookServed, lookRam, servedOf, servedRam}
 use Rattle.mmu.specs.Calls.{modeKnown, translateOf, translateRam}
+use Rattle.mmu.specs.Calls as mmu
 use Rattle.state.specs.declared.Mmu.{Mmu}
 use Rattle.access.specs.declared.Consulted.{Consulted}
 use Rattle.access.specs.declared.Served.{Served}
@@ -205,3 +207,16 @@ module _ (m : Mmu) (q : Access) (ram : List ℕ) (fit : fitOf m ≡ true) where
   pub translate-case : modeKnown (m .scheme) (m .satp .raw) ≡ true → Case m q ram (translateOf m q ram) (translateRam m q ram)
   unfolding translateOf translateRam
   translate-case known = rw (fit, known) (served (bypassed m q) refl)
+
+-- and whether it is refused with 10
+pub data Turn (m : Mmu) (q : Access) (ram : List ℕ) : Served → List ℕ → Type 1 where
+  Refuses : modeKnown (m .scheme) (m .satp .raw) ≡ false → Turn m q ram (mmu.stopped BadMode m) ram
+  Serves : modeKnown (m .scheme) (m .satp .raw) ≡ true → (v : Served) (ram′ : List ℕ) → Case m q ram v ram′ → Turn m q ram v ram′
+
+pub translate-turn : (m : Mmu) (q : Access) (ram : List ℕ) → fitOf m ≡ true → Turn m q ram (translateOf m q ram) (translateRam m q ram)
+unfolding translateOf translateRam
+translate-turn m q ram fit = go (modeKnown (m .scheme) (m .satp .raw)) refl
+  where
+    go : (b : Bool) → modeKnown (m .scheme) (m .satp .raw) ≡ b → Turn m q ram (translateOf m q ram) (translateRam m q ram)
+    go true e = Serves e _ _ (translate-case m q ram fit e)
+    go false e = rw (fit, e) (Refuses e)

@@ -10,11 +10,11 @@ use lib.Seq.{length-take-le, take-at}
 use borrow.Author.Tests.{leb-true, eqb-true, eq-eqb}
 use Rattle.scheme.specs.Refusals.{onGrant}
 use Rattle.scheme.specs.Satp.{asidOf}
-use Rattle.scheme.specs.Scheme.{total, okWidths, validOf, widthsOf, classes, padded, leafMasks, formatOf, isSv39, addressBits}
+use Rattle.scheme.specs.Scheme.{total, validOf, widthsOf, classes, padded, formatOf}
 use Rattle.scheme.specs.declared.PagingScheme.{PagingScheme}
 use Rattle.bits.proofs.Bools.{and-right}
-use Rattle.scheme.proofs.Widths.{valid, bought}
-use Rattle.scheme.proofs.Classes.{length-classes}
+use Rattle.scheme.proofs.Widths.{valid}
+use Rattle.scheme.proofs.Classes.{length-classes, sv32-valid, sv32-masks}
 use Rattle.walk.specs.Answer.{markedBy}
 use Rattle.walk.specs.declared.Access.{Access}
 use Rattle.walk.specs.declared.LeafAt.{LeafAt}
@@ -63,8 +63,8 @@ alike-self (x ∷ xs) = rw (eq-eqb x x refl) (alike-self xs)
 
 -- a new state is fit, if its entries have room
 pub new-fit : (config : TlbConfig) → roomFor config ≡ true → fitOf (stateNew config) ≡ true
-unfolding fitOf stateNew tlbNew leafMasks validOf okWidths total classes alike isSv39 addressBits
-new-fit config room = rw (new-fits config (leb-true _ 128 room))
+unfolding fitOf stateNew tlbNew classes total alike
+new-fit config room = rw (new-fits config (leb-true _ 128 room), sv32-valid, sv32-masks)
 
 -- and a fit state stays so under another scheme
 pub adopted-fit : (m : Mmu) (s : PagingScheme) → validOf s ≡ true → length (s .«level_bits») ≡ 4 → tlbFits (m .tlb) ≡ true → fitOf (withScheme m s) ≡ true
@@ -86,7 +86,7 @@ module _ (s : Settings) (config : TlbConfig) (r : Ready s) (room : roomFor confi
   -- nothing of the set-up is refused
   start-is : startOf config s ≡ switched (withScheme (stateNew config) (s .scheme)) s
   unfolding startOf settingsSaid onGrant newOf setSchemeOf
-  start-is = rw (room, new-fit config room, r .valid, bought (s .scheme) (r .valid))
+  start-is = rw (room, new-fit config room, r .valid)
 
   pub start-settings : settingsOf (startOf config s) ≡ s
   unfolding withScheme
@@ -98,7 +98,7 @@ module _ (s : Settings) (config : TlbConfig) (r : Ready s) (room : roomFor confi
 
   pub start-fit : fitOf (startOf config s) ≡ true
   unfolding fitOf stateNew
-  start-fit = rw start-is (adopted-fit (stateNew config) (s .scheme) (bought (s .scheme) (r .valid)) (r .four) (new-fits config (leb-true _ 128 room)))
+  start-fit = rw start-is (adopted-fit (stateNew config) (s .scheme) (r .valid) (r .four) (new-fits config (leb-true _ 128 room)))
 
 -- ---- an access
 

@@ -1,7 +1,7 @@
 -- The tallies along a run: each access adds to them what specs/Tallies.antt counts, mod 2^64.
 use Prim.Native.Nat.{ℕ, _+_, _%_, _^_}
 use mathlib.Core.Path.{_≡_, refl, sym, ap, subst, _∙_}
-use mathlib.Core.Bool.{Bool, true, false, cond, _&&_}
+use mathlib.Core.Bool.{Bool, true, false, cond, _&&_, and-false}
 use mathlib.Core.List.{List, [], _∷_}
 use native.Mathlib.Nat.{add-mod, mod-mod}
 use native.Mathlib.Omega.{arith}
@@ -20,6 +20,7 @@ use Rattle.tlb.specs.declared.Tlb.{Tlb}
 use Rattle.tlb.specs.declared.Lookup.{Lookup}
 use Rattle.tlb.specs.declared.Lookup.the-variants.{Found, Absent}
 use Rattle.state.specs.State.{withTlb, fitOf}
+use Rattle.mmu.specs.Calls.{modeKnown}
 use Rattle.access.specs.Translate.{bypassed, tallied, consultOf, madeOf, missWalk}
 use Rattle.state.specs.declared.Mmu.{Mmu}
 use Rattle.access.specs.declared.Consulted.{Consulted}
@@ -29,9 +30,8 @@ use Rattle.session.specs.declared.Event.{Event}
 use Rattle.session.specs.declared.Event.the-variants.{Translate, Flush, FlushAt}
 use Rattle.order.specs.Tallies.{countOf, translated, permits, foundHit, forbids, foundFault, isAbsent, walks, isFault, walkFault, isNothing, takesVictim, leafVictim, evicts}
 use Rattle.order.specs.Claims.{Wraps, TalliesAddUp}
-use Rattle.order.proofs.Serves.{Consults, filled, Case, Passes, Hits, Forbids, Leads, Ends, translate-case}
-use Rattle.order.proofs.Fit.{flushed, flushed-at, event-fit, event-known}
-use Rattle.mmu.specs.Calls.{modeKnown}
+use Rattle.order.proofs.Serves.{Consults, filled, Case, Passes, Hits, Forbids, Leads, Ends, Turn, Refuses, Serves, translate-turn}
+use Rattle.order.proofs.Fit.{flushed, flushed-at, event-fit}
 
 -- ---- sums that wrap
 
@@ -131,14 +131,18 @@ record Adds (st st′ : TlbStats) (tr hi wk ff wf ev : Bool) : Type 0 where
   evictions : Wraps (st′ .evictions) (st .evictions + one ev)
 
 module _ (m : Mmu) (q : Access) (ram : List ℕ) (fit : fitOf m ≡ true) where
-  -- the tests of an access that is bypassed, and of one that is not
+  -- the tests of an access that is refused, of one that is bypassed, and of one that is neither
+  refused-off : modeKnown (m .scheme) (m .satp .raw) ≡ false → translated m q ram ≡ false
+  unfolding translated
+  refused-off h = rw (fit, h)
+
   passes-off : bypassed m q ≡ true → translated m q ram ≡ false
   unfolding translated
-  passes-off h = rw (fit, h)
+  passes-off h = rw h (and-false (fitOf m && modeKnown (m .scheme) (m .satp .raw)))
 
-  on : bypassed m q ≡ false → translated m q ram ≡ true
+  on : modeKnown (m .scheme) (m .satp .raw) ≡ true → bypassed m q ≡ false → translated m q ram ≡ true
   unfolding translated
-  on h = rw (fit, h)
+  on known h = rw (fit, known, h)
 
   abbrev AddsBy : TlbStats → Bool → Bool → Bool → Bool → Bool → Bool → Type 0
   AddsBy st tr hi wk ff wf ev = Adds (m .tlb .stats) st tr hi wk ff wf ev
@@ -147,11 +151,11 @@ module _ (m : Mmu) (q : Access) (ram : List ℕ) (fit : fitOf m ≡ true) where
   Added st =
       AddsBy st (translated m q ram) (foundHit m q ram) (walks m q ram) (foundFault m q ram) (walkFault m q ram) (evicts m q ram)
 
-  passed : bypassed m q ≡ true → Added (m .tlb .stats)
+  not-translated : translated m q ram ≡ false → Added (m .tlb .stats)
   unfolding foundHit foundFault walkFault walks evicts
-  passed h =
+  not-translated off =
       let st = m .tlb .stats in
-      rw (passes-off h) (record {
+      rw off (record {
         hits = wraps-none (st .hits);
         misses = wraps-none (st .misses);
         accesses = refl;
@@ -160,13 +164,13 @@ module _ (m : Mmu) (q : Access) (ram : List ℕ) (fit : fitOf m ≡ true) where
       })
 
   -- by what the TLB said
-  consulted : (st : TlbStats) (t : Tlb) (k : Lookup) → bypassed m q ≡ false → consultOf m q ≡ record { lookup = k; mmu = withTlb m t }
+  consulted : modeKnown (m .scheme) (m .satp .raw) ≡ true → (st : TlbStats) (t : Tlb) (k : Lookup) → bypassed m q ≡ false → consultOf m q ≡ record { lookup = k; mmu = withTlb m t }
       → AddsBy st true (permits q k) (isAbsent k) (forbids q k) (isAbsent k && isFault (missWalk m q ram)) (isAbsent k && leafVictim (withTlb m t) q (missWalk m q ram))
       → Added st
   unfolding foundHit foundFault walkFault walks evicts
-  consulted st t k h e a =
+  consulted known st t k h e a =
       let v = missWalk m q ram in
-      rw (on h)
+      rw (on known h)
       (subst (λ (x : Consulted). AddsBy st true (permits q (x .lookup)) (isAbsent (x .lookup)) (forbids q (x .lookup)) (isAbsent (x .lookup) && isFault v) (isAbsent (x .lookup) && leafVictim (x .mmu) q v))
       (sym e) a)
 
@@ -204,13 +208,17 @@ module _ (m : Mmu) (q : Access) (ram : List ℕ) (fit : fitOf m ≡ true) where
       }
       go false = a
 
-  case-adds : (v : Served) (ram′ : List ℕ) → Case m q ram v ram′ → Added (v .mmu .tlb .stats)
+  case-adds : modeKnown (m .scheme) (m .satp .raw) ≡ true → (v : Served) (ram′ : List ℕ) → Case m q ram v ram′ → Added (v .mmu .tlb .stats)
   unfolding madeOf
-  case-adds v ram′ (Passes h) = passed h
-  case-adds v ram′ (Hits h t e k c p) = consulted _ t (Found e) h k (rw p (counted t (Found e) c 0 true false false false refl refl))
-  case-adds v ram′ (Forbids h t e k c p) = consulted _ t (Found e) h k (rw p (counted t (Found e) c 1 false false true false refl refl))
-  case-adds v ram′ (Leads h t k c l e) = consulted _ t Absent h k (rw e (led-adds t l c))
-  case-adds v ram′ (Ends h t k c why level e) = consulted _ t Absent h k (rw e (counted t Absent c 1 false true false true refl refl))
+  case-adds known v ram′ (Passes h) = not-translated (passes-off h)
+  case-adds known v ram′ (Hits h t e k c p) = consulted known _ t (Found e) h k (rw p (counted t (Found e) c 0 true false false false refl refl))
+  case-adds known v ram′ (Forbids h t e k c p) = consulted known _ t (Found e) h k (rw p (counted t (Found e) c 1 false false true false refl refl))
+  case-adds known v ram′ (Leads h t k c l e) = consulted known _ t Absent h k (rw e (led-adds t l c))
+  case-adds known v ram′ (Ends h t k c why level e) = consulted known _ t Absent h k (rw e (counted t Absent c 1 false true false true refl refl))
+
+  turn-adds : (v : Served) (ram′ : List ℕ) → Turn m q ram v ram′ → Added (v .mmu .tlb .stats)
+  turn-adds v ram′ (Refuses k) = not-translated (refused-off k)
+  turn-adds v ram′ (Serves k u r c) = case-adds k u r c
 
 -- ---- a flush adds nothing
 
@@ -235,9 +243,9 @@ record Sums (st : TlbStats) (es : List Event) (m : Mmu) (ram : List ℕ) : Type 
   faults : Wraps (endMmu es m ram .tlb .stats .«page_faults») (st .«page_faults» + countOf foundFault es m ram + countOf walkFault es m ram)
   evictions : Wraps (endMmu es m ram .tlb .stats .evictions) (st .evictions + countOf evicts es m ram)
 
-sums : (es : List Event) (m : Mmu) (ram : List ℕ) → fitOf m ≡ true → modeKnown (m .scheme) (m .satp .raw) ≡ true → Sums (m .tlb .stats) es m ram
+sums : (es : List Event) (m : Mmu) (ram : List ℕ) → fitOf m ≡ true → Sums (m .tlb .stats) es m ram
 unfolding endMmu countOf
-sums [] m ram fit known =
+sums [] m ram fit =
     let st = m .tlb .stats in
     record {
       hits = wraps-none (st .hits);
@@ -246,14 +254,14 @@ sums [] m ram fit known =
       faults = wraps-is (st .«page_faults») (st .«page_faults» + 0 + 0) (omega arith);
       evictions = wraps-none (st .evictions);
     }
-sums (Translate q ∷ es) m ram fit known =
+sums (Translate q ∷ es) m ram fit =
     let m′ = stepMmu (Translate q) m ram in
     let ram′ = stepRam (Translate q) m ram in
     let st = m .tlb .stats in
     let st′ = m′ .tlb .stats in
     let end = endMmu es m′ ram′ .tlb .stats in
-    let a = case-adds m q ram fit _ _ (translate-case m q ram fit known) in
-    let r = sums es m′ ram′ (event-fit m fit known ram (Translate q)) (event-known m fit known ram (Translate q)) in
+    let a = turn-adds m q ram fit _ _ (translate-turn m q ram fit) in
+    let r = sums es m′ ram′ (event-fit m fit ram (Translate q)) in
     record {
       hits = then-counts (end .hits) (st′ .hits) _ (st .hits) _ (r .hits) (a .hits);
       misses = then-counts (end .misses) (st′ .misses) _ (st .misses) _ (r .misses) (a .misses);
@@ -261,18 +269,18 @@ sums (Translate q ∷ es) m ram fit known =
       faults = then-faults (end .«page_faults») (st′ .«page_faults») _ _ (st .«page_faults») _ _ (r .faults) (a .faults);
       evictions = then-counts (end .evictions) (st′ .evictions) _ (st .evictions) _ (r .evictions) (a .evictions);
     }
-sums (Flush ∷ es) m ram fit known =
+sums (Flush ∷ es) m ram fit =
     let m′ = stepMmu Flush m ram in
     let same : m′ .tlb .stats ≡ m .tlb .stats = ap (λ (x : Mmu). x .tlb .stats) (flushed m fit) ∙ flush-stats (m .tlb) in
-    let r = subst (λ (st : TlbStats). Sums st es m′ (stepRam Flush m ram)) same (sums es m′ _ (event-fit m fit known ram Flush) (event-known m fit known ram Flush)) in
+    let r = subst (λ (st : TlbStats). Sums st es m′ (stepRam Flush m ram)) same (sums es m′ _ (event-fit m fit ram Flush)) in
     record { hits = r .hits; misses = r .misses; accesses = r .accesses; faults = r .faults; evictions = r .evictions }
-sums (FlushAt va ∷ es) m ram fit known =
+sums (FlushAt va ∷ es) m ram fit =
     let m′ = stepMmu (FlushAt va) m ram in
     let same : m′ .tlb .stats ≡ m .tlb .stats = ap (λ (x : Mmu). x .tlb .stats) (flushed-at m fit va) ∙ flush-at-stats (m .tlb) va in
-    let r = subst (λ (st : TlbStats). Sums st es m′ (stepRam (FlushAt va) m ram)) same (sums es m′ _ (event-fit m fit known ram (FlushAt va)) (event-known m fit known ram (FlushAt va))) in
+    let r = subst (λ (st : TlbStats). Sums st es m′ (stepRam (FlushAt va) m ram)) same (sums es m′ _ (event-fit m fit ram (FlushAt va))) in
     record { hits = r .hits; misses = r .misses; accesses = r .accesses; faults = r .faults; evictions = r .evictions }
 
 pub add-up : TalliesAddUp
-add-up es m ram fit known =
-    let r = sums es m ram fit known in
+add-up es m ram fit =
+    let r = sums es m ram fit in
     record { hits = r .hits; misses = r .misses; accesses = r .accesses; faults = r .faults; evictions = r .evictions }

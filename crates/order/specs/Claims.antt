@@ -7,17 +7,19 @@ use Prim.Native.Nat.{ℕ, _+_, _%_, _^_, _<_}
 use mathlib.Core.Path.{_≡_}
 use mathlib.Core.Bool.{true, false, _||_}
 use mathlib.Core.List.{List, [], map, Perm}
+use mathlib.Core.Logic.{_⊎_}
 use lib.ListN.{length, getD}
-use Rattle.bits.specs.Bits.{bit}
+use Rattle.bits.specs.Bits.{bit, fieldOf}
 use Rattle.pte.specs.Entry.{aPlace, dPlace}
-use Rattle.scheme.specs.Scheme.{boughtOf}
+use Rattle.scheme.specs.Scheme.{isSv39, validOf}
 use Rattle.scheme.specs.declared.PagingScheme.{PagingScheme}
+use Rattle.scheme.specs.declared.refusal.Refusal.the-variants.{BadMode}
 use Rattle.walk.specs.declared.Access.{Access}
 use Rattle.walks.specs.Plain.{plain, Bytes}
 use Rattle.entry.specs.declared.TlbConfig.{TlbConfig}
 use Rattle.slots.specs.Slots.{entryAt}
 use Rattle.state.specs.State.{fitOf}
-use Rattle.mmu.specs.Calls.{modeKnown, roomFor, newOf, setSchemeOf, reconfigureOf}
+use Rattle.mmu.specs.Calls.{roomFor, newOf, setSchemeOf, reconfigureOf}
 use Rattle.state.specs.declared.Mmu.{Mmu}
 use Rattle.session.specs.Session.{startOf, endMmu, endRam}
 use Rattle.session.specs.declared.Settings.{Settings}
@@ -26,10 +28,14 @@ use Rattle.order.specs.Runs.{settingsOf, accesses, answers, refusals}
 use Rattle.order.specs.Plain.{plainAnswer, allMarks, earnsA, earnsD, someOf}
 use Rattle.order.specs.Tallies.{countOf, translated, foundHit, walks, foundFault, walkFault, evicts}
 
+-- "no setting refused": `translate` refuses 10 on Sv39 alone, where satp's mode is neither "8 for Sv39" nor "0 for Bare"
+abbrev pub ModeGiven : PagingScheme → ℕ → Type 0
+ModeGiven s satp = isSv39 s ≡ true → (fieldOf 60 4 satp ≡ 0) ⊎ (fieldOf 60 4 satp ≡ 8)
+
 -- "an empty cache of its own size and policy, scheme, satp and switches": a fit state with the settings s and no valid entry
 pub record Empty (s : Settings) (m : Mmu) : Type 0 where
   pub fit : fitOf m ≡ true
-  pub known : modeKnown (s .scheme) (s .satp) ≡ true
+  pub mode : ModeGiven (s .scheme) (s .satp)
   pub settings : settingsOf m ≡ s
   pub none : (i : ℕ) → i < m .tlb .count → entryAt (m .tlb .entries) i .valid ≡ false
 
@@ -47,12 +53,13 @@ AnyOrder =
     → (es fs : List Event) → Perm (accesses es) (accesses fs)
     → PlainRun s start one es (accesses es) × PlainRun s start two fs (accesses es)
 
--- what the settings have to be: a scheme of document 01, whose widths are an array of four
+-- what the settings have to be: none refused, and the scheme's widths an array of four
 pub record Ready (s : Settings) : Type 0 where
-  pub valid : boughtOf (s .scheme) ≡ true
+  pub valid : validOf (s .scheme) ≡ true
+  pub mode : ModeGiven (s .scheme) (s .satp)
   pub four : length (s .scheme .«level_bits») ≡ 4
 
--- the state that `set_up` starts from is such a one
+-- the state that `set_up` starts from, by `new`, `set_scheme`, satp and the switches, is such a one, on Sv39 as on document 01's schemes
 abbrev pub StartIsEmpty : Type 0
 StartIsEmpty = (s : Settings) → Ready s → (config : TlbConfig) → roomFor config ≡ true → Empty s (startOf config s)
 
@@ -76,11 +83,16 @@ pub record CallsFit : Type 0 where
   pub set-scheme : (m : Mmu) (s : PagingScheme) → length (s .«level_bits») ≡ 4 → fitOf m ≡ true → fitOf (setSchemeOf m s .mmu) ≡ true
   pub reconfigure : (m : Mmu) (c : TlbConfig) → fitOf m ≡ true → fitOf (reconfigureOf m c .mmu) ≡ true
 
--- a run that starts on a fit state is never refused and ends fit
+-- what a run that starts on a fit state is refused with: nothing; but "a satp mode that is neither" has every access refused with 10, "enabled
+-- or not", and no flush. It ends fit
+pub record Refusing (es : List Event) (m : Mmu) (ram : List ℕ) : Type 0 where
+  pub none : ModeGiven (m .scheme) (m .satp .raw) → refusals es m ram ≡ []
+  pub ten : isSv39 (m .scheme) ≡ true → (fieldOf 60 4 (m .satp .raw) ≡ 0 → ⊥) → (fieldOf 60 4 (m .satp .raw) ≡ 8 → ⊥)
+      → refusals es m ram ≡ map (λ q. BadMode) (accesses es)
+  pub fit : fitOf (endMmu es m ram) ≡ true
+
 abbrev pub NeverRefused : Type 0
-NeverRefused =
-    (es : List Event) (m : Mmu) (ram : List ℕ) → fitOf m ≡ true → modeKnown (m .scheme) (m .satp .raw) ≡ true
-    → (refusals es m ram ≡ []) × (fitOf (endMmu es m ram) ≡ true)
+NeverRefused = (es : List Event) (m : Mmu) (ram : List ℕ) → fitOf m ≡ true → Refusing es m ram
 
 -- "Tallies wrap at 2^64"
 abbrev pub Wraps : ℕ → ℕ → Type 0
@@ -110,4 +122,4 @@ pub record Tallied (es : List Event) (m : Mmu) (ram : List ℕ) : Type 0 where
       (m .tlb .stats .evictions + countOf evicts es m ram)
 
 abbrev pub TalliesAddUp : Type 0
-TalliesAddUp = (es : List Event) (m : Mmu) (ram : List ℕ) → fitOf m ≡ true → modeKnown (m .scheme) (m .satp .raw) ≡ true → Tallied es m ram
+TalliesAddUp = (es : List Event) (m : Mmu) (ram : List ℕ) → fitOf m ≡ true → Tallied es m ram

@@ -16,6 +16,7 @@ use Rattle.tlb.specs.declared.Lookup.{Lookup}
 use Rattle.tlb.specs.declared.Lookup.the-variants.{Found, Absent}
 use Rattle.state.specs.State.{fitOf}
 use Rattle.access.specs.Translate.{bypassed, consultOf, entryPermits, missWalk, madeOf}
+use Rattle.mmu.specs.Calls.{modeKnown}
 use Rattle.state.specs.declared.Mmu.{Mmu}
 use Rattle.session.specs.Session.{stepMmu, stepRam}
 use Rattle.session.specs.declared.Event.{Event}
@@ -30,7 +31,7 @@ countOf f (FlushAt va ∷ es) m ram = countOf f es (stepMmu (FlushAt va) m ram) 
 
 -- "accesses neither bypassed nor refused"
 unfoldable pub translated : Mmu → Access → List ℕ → Bool
-translated m q ram = fitOf m && not (bypassed m q)
+translated m q ram = (fitOf m && modeKnown (m .scheme) (m .satp .raw)) && not (bypassed m q)
 
 -- an entry that decides the access, and permits it
 abbrev pub permits : Access → Lookup → Bool

@@ -29,7 +29,7 @@ fn replay_sized(file: &mut [u8]) -> bool {
 fn next_length() -> Word {
     let mut head = [0u8; 4];
     let n = io::read_full(STDIN_FILENO, &mut head);
-    memory::load(&head[..n], 0, 4, 32)
+    memory::load32(&head[..n], 0)
 }
 
 // Replays the next bundle, and tells whether to go on: not at the end, nor after a bundle that is cut off or longer than the buffer.

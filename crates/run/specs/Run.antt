@@ -9,10 +9,9 @@ use lib.Seq.{sets}
 use Rattle.scheme.specs.declared.refusal.Said.{Said}
 use Rattle.scheme.specs.declared.refusal.Said.the-variants.{Granted, Refused}
 use Rattle.state.specs.declared.Mmu.{Mmu}
-use Rattle.session.specs.Session.{startOf, settingsSaid}
 use Rattle.bundle.specs.declared.Parts.{Parts}
 use Rattle.bundle.specs.Parts.{readOf}
-use Rattle.bundle_run.specs.Parts.{partsText, partsEnd, partsMmu, roomOf}
+use Rattle.bundle_run.specs.Parts.{bundleSaid, bundleStart, partsText, partsEnd, partsMmu, roomOf}
 use Rattle.run.specs.declared.Ran.{Ran}
 use Rattle.run.specs.declared.Ran.the-variants.{Wrote, TooShort}
 
@@ -29,11 +28,11 @@ partsIn s = readOf s .parts
 
 -- the state that its settings give
 abbrev pub startIn : List ℕ → Mmu
-startIn s = startOf (partsIn s .config) (partsIn s .settings)
+startIn s = bundleStart (partsIn s .config) (partsIn s .settings)
 
 -- "The program tests 8, 1, 2, then the installer's", over the bundle's own RAM
 abbrev pub earlyIn : List ℕ → Said
-earlyIn s = firstOf (readOf s .said) (settingsSaid (partsIn s .config) (partsIn s .settings))
+earlyIn s = firstOf (readOf s .said) (bundleSaid (partsIn s .config) (partsIn s .settings))
 
 -- the whole output: the refusal alone, or the lines and the tallies
 abbrev pub outputOf : List ℕ → List ℕ

@@ -53,7 +53,7 @@ pub fn run_kept(file: &[u8], ram: &mut [u8], out: &mut [u8]) -> RunKept
     let p = got.parts;
     let config = p.config;
     let settings = p.settings;
-    let k = session::set_up(config, settings);
+    let k = bundle_run::set_up(config, settings);
     let said = k.said;
     let m = k.mmu;
     let early = first_of(layout, said);

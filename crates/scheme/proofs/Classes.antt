@@ -10,7 +10,8 @@ use mathlib.Core.Bool.{true}
 use lib.ListN.{length, getD, drop, set, length-append, length-set, List·getD-append}
 use lib.Seq.{drop-cons, getD-at, getD-set-same, drop-set-lt, length-take-le}
 use Rattle.scheme.specs.declared.PagingScheme.{PagingScheme}
-use Rattle.scheme.specs.Scheme.{total, okWidths, widthsOf, shiftOf, classes}
+use Rattle.scheme.specs.declared.refusal.Said.the-variants.{Granted}
+use Rattle.scheme.specs.Scheme.{total, okWidths, widthsOf, boughtOf, validOf, shiftOf, classes, leafMasks, sv32Scheme}
 use Rattle.scheme.proofs.Widths.{Valid, ok-at, total-at}
 
 pub length-classes : (ws : List ℕ) → length (classes ws) ≡ length ws
@@ -62,7 +63,16 @@ class-high s four v i h =
     let level = length ws - 1 - i in
     let k : length ws - i ≡ suc level = omega arith in
     let is = class-total ws i (omega arith) ∙ ap (λ (n : ℕ). total (drop n ws)) k in
-    omega (arith, is, total-at ws level, v .low level (omega arith), v .all, v .bits-low, v .offset-low)
+    omega (arith, is, total-at ws level, v .low level (omega arith), v .least, v .offset-low)
+
+-- Sv32's, worked out
+pub sv32-valid : validOf sv32Scheme ≡ true
+unfolding validOf boughtOf okWidths total
+sv32-valid = refl
+
+pub sv32-masks : leafMasks sv32Scheme ≡ record { masks = 0 ∷ 10 ∷ 0 ∷ 0 ∷ []; count = 2; said = Granted }
+unfolding leafMasks validOf boughtOf okWidths total classes
+sv32-masks = refl
 
 -- the array is filled from the top level on: the classes of `ws` are yet to stand before what is written
 module _ (masks : List ℕ) (n i : ℕ) where

@@ -34,18 +34,18 @@ module _ (s : PagingScheme) (four : length (s .«level_bits») ≡ 4) (v : Valid
 
   pub shift-high : shiftOf (s .«offset_bits») (widthsOf s) level < 32
   unfolding shiftOf
-  shift-high = omega (arith, v .low level here, total-at (widthsOf s) level, v .all, v .bits-low)
+  shift-high = omega (arith, v .low level here, total-at (widthsOf s) level, v .least)
 
   -- `1 << width`
-  pub one-width : 1 * 2 ^ getD (s .«level_bits») level 0 % 2 ^ 32 ≡ 2 ^ getD (widthsOf s) level 0
-  one-width = rw width-at (one-shl 32 _ (omega (arith, width-high)))
+  pub one-width : 1 * 2 ^ getD (s .«level_bits») level 0 % 2 ^ 64 ≡ 2 ^ getD (widthsOf s) level 0
+  one-width = rw width-at (one-shl 64 _ (omega (arith, width-high)))
 
   -- `size << width`: the bytes of a level's table, at most eight frames
   module _ (size : ℕ) (few : size ≤ 8) where
     pub table-high : size * 2 ^ getD (widthsOf s) level 0 ≤ 32768
     table-high = le-trans (mul-le-mul-left size (pow-mono (own .1))) (omega arith)
 
-    pub table-bytes : size * 2 ^ getD (s .«level_bits») level 0 % 2 ^ 32 ≡ size * 2 ^ getD (widthsOf s) level 0
+    pub table-bytes : size * 2 ^ getD (s .«level_bits») level 0 % 2 ^ 64 ≡ size * 2 ^ getD (widthsOf s) level 0
     table-bytes = rw (sym width-at) (mod-eq-of-lt (omega (arith, table-high)))
 
 pub modest : (s : PagingScheme) → Modest (formatOf s)
@@ -53,8 +53,8 @@ unfolding formatOf
 modest s = go (isSv39 s)
   where
     go : (b : Bool) → Modest (cond b sv39 sv32)
-    go true = record { some = lit< tt; short = omega arith; roomy = omega arith; narrow = omega arith; tall = omega arith }
-    go false = record { some = lit< tt; short = omega arith; roomy = omega arith; narrow = omega arith; tall = omega arith }
+    go true = record { some = lit< tt; short = omega arith; roomy = omega arith; narrow = omega arith; tall = omega arith; named = omega arith }
+    go false = record { some = lit< tt; short = omega arith; roomy = omega arith; narrow = omega arith; tall = omega arith; named = omega arith }
 
 -- a level that is known
 module _ (s : PagingScheme) (level : ℕ) (e : knownLevel s level ≡ true) where

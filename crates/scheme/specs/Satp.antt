@@ -1,42 +1,46 @@
--- The fields of satp: "bit 31 mode (0 Bare), bits 30-22 ASID, 21-0 PPN"; what lies above is not looked at. Of Sv39: "mode in 63-60
--- (8 for Sv39, 0 for Bare), ASID 59-44, PPN 43-0".
+-- The register satp. Its fields come from the scheme's format: the PPN lies lowest, above it the ASID, then the mode. Of document 01's
+-- schemes what lies above bit 31 is not looked at.
 use Prim.Native.Nat.{ℕ, _+_, _*_, _/_, _%_, _^_}
-use mathlib.Core.Bool.{Bool, true, false, cond}
+use mathlib.Core.Bool.{cond}
 use lib.Dec.{eqb}
 use Rattle.bits.specs.Bits.{fieldOf}
-use Rattle.scheme.specs.Scheme.{isSv39}
+use Rattle.scheme.specs.Scheme.{formatOf}
+use Rattle.scheme.specs.declared.Format.{Format}
 use Rattle.scheme.specs.declared.PagingScheme.{PagingScheme}
 use Rattle.scheme.specs.declared.satp.Satp.{Satp}
 use Rattle.scheme.specs.declared.satp.SatpMode.{SatpMode}
-use Rattle.scheme.specs.declared.satp.SatpMode.the-variants.{Bare, Sv32, Sv39, Unknown}
+use Rattle.scheme.specs.declared.satp.SatpMode.the-variants.{Bare, Paged, Neither}
 
 -- the register that holds a word
 abbrev pub satpWith : ℕ → Satp
 satpWith raw = record { raw = raw }
 
--- "mode (0 Bare)", and "mode 1" as `make_satp` has it
-abbrev pub modeIn : Bool → ℕ → SatpMode
-modeIn true raw = cond (eqb (raw / 2 ^ 60) 0) Bare (cond (eqb (raw / 2 ^ 60) 8) Sv39 Unknown)
-modeIn false raw = cond (eqb (fieldOf 31 1 raw) 0) Bare Sv32
+-- ---- the fields, in a format
 
-abbrev pub asidIn : Bool → ℕ → ℕ
-asidIn true raw = fieldOf 44 16 raw
-asidIn false raw = fieldOf 22 9 raw
+-- "0 Bare" in both; "mode 1", or "8 for Sv39", turns translation on; or it is "a satp mode that is neither"
+abbrev pub modeNamed : ℕ → ℕ → SatpMode
+modeNamed on n = cond (eqb n 0) Bare (cond (eqb n on) Paged Neither)
 
-abbrev pub rootIn : Bool → ℕ → ℕ
-rootIn true raw = raw % 2 ^ 44
-rootIn false raw = raw % 2 ^ 22
+unfoldable pub modeIn : Format → ℕ → SatpMode
+modeIn f raw = modeNamed (f .mode) (fieldOf (f .«mode_at») (f .«mode_bits») raw)
 
--- by the scheme
+unfoldable pub asidIn : Format → ℕ → ℕ
+asidIn f raw = fieldOf (f .«asid_at») (f .«asid_bits») raw
+
+unfoldable pub rootIn : Format → ℕ → ℕ
+rootIn f raw = raw % 2 ^ f .«asid_at»
+
+-- the satp of a root and an ASID, translation on: "mode 1, ASID mod 512, root / 4096", and of Sv39 the same with its numbers
+unfoldable pub satpIn : Format → ℕ → ℕ → ℕ
+satpIn f root asid = f .mode * 2 ^ f .«mode_at» + asid % 2 ^ f .«asid_bits» * 2 ^ f .«asid_at» + root / 4096 % 2 ^ f .«asid_at»
+
+-- ---- by the scheme
+
 abbrev pub modeOf : PagingScheme → ℕ → SatpMode
-modeOf s raw = modeIn (isSv39 s) raw
+modeOf s raw = modeIn (formatOf s) raw
 
 abbrev pub asidOf : PagingScheme → ℕ → ℕ
-asidOf s raw = asidIn (isSv39 s) raw
+asidOf s raw = asidIn (formatOf s) raw
 
 abbrev pub rootOf : PagingScheme → ℕ → ℕ
-rootOf s raw = rootIn (isSv39 s) raw
-
--- "mode 1, ASID mod 512, root / 4096"
-abbrev pub satpOf : ℕ → ℕ → ℕ
-satpOf root asid = 1 * 2 ^ 31 + asid % 512 * 2 ^ 22 + root / 4096
+rootOf s raw = rootIn (formatOf s) raw

@@ -1,7 +1,7 @@
 -- Paging schemes: "a page offset width and one to four index widths, top first".
 use Prim.Native.Nat.{ℕ, suc, _+_, _-_, _*_, _/_, _^_, _≤_, _<_}
 use mathlib.Core.List.{List, [], _∷_, _++_}
-use mathlib.Core.Bool.{Bool, true, not, _&&_, cond}
+use mathlib.Core.Bool.{Bool, true, _&&_, _||_, cond}
 use lib.ListN.{length, getD, take, drop}
 use lib.Dec.{leb, ltb, eqb}
 use Rattle.scheme.specs.declared.PagingScheme.{PagingScheme}
@@ -16,18 +16,9 @@ use Rattle.scheme.specs.Refusals.{asked}
 abbrev pub sv32Scheme : PagingScheme
 sv32Scheme = record { «offset_bits» = 12; «level_bits» = 10 ∷ 10 ∷ 0 ∷ 0 ∷ []; levels = 2 }
 
--- "the manual's Sv39: three widths of 9, offset 12"
+-- "Sv39": offset 12, widths 9, 9 and 9
 abbrev pub sv39Scheme : PagingScheme
 sv39Scheme = record { «offset_bits» = 12; «level_bits» = 9 ∷ 9 ∷ 9 ∷ 0 ∷ []; levels = 3 }
-
-unfoldable pub isSv39 : PagingScheme → Bool
-isSv39 s =
-    eqb (s .«offset_bits») 12 && (eqb (s .levels) 3
-    && ((eqb (getD (s .«level_bits») 0 0) 9 && eqb (getD (s .«level_bits») 1 0) 9) && eqb (getD (s .«level_bits») 2 0) 9))
-
--- the bits of a virtual address that a scheme looks at
-unfoldable pub addressBits : PagingScheme → ℕ
-addressBits s = cond (isSv39 s) 39 32
 
 -- the sum of widths
 unfoldable pub total : List ℕ → ℕ
@@ -54,14 +45,21 @@ widthsOf s = take (s .levels) (s .«level_bits»)
 abbrev pub totalBits : PagingScheme → ℕ
 totalBits s = s .«offset_bits» + total (widthsOf s)
 
--- "Valid: offset 12 to 30, each used width 1 to 12, all together 32", with "one to four index widths", or Sv39
-unfoldable pub validOf : PagingScheme → Bool
-validOf s =
-    between 12 30 (s .«offset_bits») && (between 1 4 (s .levels) && (okWidths (widthsOf s) && eqb (totalBits s) (addressBits s)))
-
+-- document 01's schemes: "Valid: offset 12 to 30, each used width 1 to 12, all together 32", with "one to four index widths".
 -- "The bundle and the installer stay with 01's schemes"
 unfoldable pub boughtOf : PagingScheme → Bool
-boughtOf s = validOf s && not (isSv39 s)
+boughtOf s =
+    between 12 30 (s .«offset_bits») && (between 1 4 (s .levels) && (okWidths (widthsOf s) && eqb (totalBits s) 32))
+
+-- "the manual's Sv39: three widths of 9, offset 12"; a fourth width is not looked at
+unfoldable pub isSv39 : PagingScheme → Bool
+isSv39 s =
+    eqb (s .«offset_bits») 12 && (eqb (s .levels) 3
+    && ((eqb (getD (s .«level_bits») 0 0) 9 && eqb (getD (s .«level_bits») 1 0) 9) && eqb (getD (s .«level_bits») 2 0) 9))
+
+-- the schemes that there are
+unfoldable pub validOf : PagingScheme → Bool
+validOf s = boughtOf s || isSv39 s
 
 -- refusal 1 otherwise: "the scheme is not valid, or a level asked about is not below its count"
 abbrev pub knownLevel : PagingScheme → ℕ → Bool
@@ -99,24 +97,47 @@ leafMasks s =
     (record { masks = padded (classes (widthsOf s)); count = s .levels; said = Granted })
     (record { masks = padded []; count = 0; said = Refused BadScheme })
 
--- document 01's format: words of four bytes, addresses "kept to 32 bits", and nothing above the 32 bits of a virtual address
+-- document 01's format: words of four bytes; physical addresses "kept to 32 bits"; no virtual address has a bit above 31; "satp: bit 31 mode
+-- (0 Bare), bits 30-22 ASID, 21-0 PPN", and "mode 1" where it is on
 abbrev pub sv32 : Format
-sv32 = record { bytes = 4; space = 32; top = 32; ones = 0 }
+sv32 = record {
+  bytes = 4;
+  space = 32;
+  top = 32;
+  ones = 0;
+  «asid_at» = 22;
+  «asid_bits» = 9;
+  «mode_at» = 31;
+  «mode_bits» = 1;
+  mode = 1;
+}
 
--- "8-byte entries", PPNs of 44 bits times 4096, "address bits 63-39 all equal to bit 38": from bit 38 on, 26 bits
+-- Sv39's: "8-byte entries"; 44 bits of PPN and 12 of offset; "address bits 63-39 all equal to bit 38", which are 26 bits from bit 38 on;
+-- "mode in 63-60 (8 for Sv39, 0 for Bare), ASID 59-44, PPN 43-0"
 abbrev pub sv39 : Format
-sv39 = record { bytes = 8; space = 56; top = 38; ones = 2 ^ 26 - 1 }
+sv39 = record {
+  bytes = 8;
+  space = 56;
+  top = 38;
+  ones = 2 ^ 26 - 1;
+  «asid_at» = 44;
+  «asid_bits» = 16;
+  «mode_at» = 60;
+  «mode_bits» = 4;
+  mode = 8;
+}
 
 unfoldable pub formatOf : PagingScheme → Format
 formatOf s = cond (isSv39 s) sv39 sv32
 
--- what the formats have in common: an entry lies whole in a page, and addresses and their tops in a word
+-- what the formats have in common: an entry lies whole in a page and a word, addresses and their tops in a word, ASIDs in 16 bits
 pub record Modest (f : Format) : Type 0 where
   pub some : 0 < f .bytes
   pub short : f .bytes ≤ 8
   pub roomy : 12 ≤ f .space
   pub narrow : f .space ≤ 56
   pub tall : 32 ≤ f .top
+  pub named : f .«asid_bits» ≤ 16
 
 -- n bytes in whole frames of 4096
 abbrev pub roundUp : ℕ → ℕ

@@ -5,7 +5,7 @@ ghost use mathlib.Core.Bool.{true};
 ghost use Prim.Native.Nat.{_+_, _≤_};
 ghost use lib.ListN.{take, drop};
 ghost use Rattle.scheme.specs.Scheme.{total, okWidths, levelsOf, widthsOf, totalBits, validOf, knownLevel, sv32Scheme};
-ghost use Rattle.scheme.specs.Scheme.{shiftOf, shiftAt, pageBytesAt, entriesAt, rootPa, isSv39, addressBits, sv39Scheme, boughtOf, formatOf};
+ghost use Rattle.scheme.specs.Scheme.{shiftOf, shiftAt, pageBytesAt, entriesAt, rootPa, isSv39, sv39Scheme, boughtOf, formatOf};
 ghost use Rattle.scheme.specs.Scheme.{classes, padded, leafMasks};
 ghost use Rattle.scheme.specs.Satp.{modeOf, asidOf, rootOf};
 
@@ -23,6 +23,7 @@ pub use refusal::Said;
 pub use satp::Satp;
 pub use satp::SatpMode;
 pub use satp::make_satp;
+pub use satp::make_satp39;
 
 // `level_bits` holds `levels` widths; what stands behind them is not looked at.
 pub struct PagingScheme {
@@ -31,13 +32,19 @@ pub struct PagingScheme {
     pub levels: u8,
 }
 
-// What may differ between table formats: an entry's bytes, the bits that a physical address is kept to, and the virtual address's top:
-// the bits from `top` on are all clear, or they are `ones`.
+// What may differ between the schemes' tables and registers: an entry's bytes; the bits that a physical address is kept to; the virtual
+// address's top, whose bits from `top` on are all clear, or are `ones`; and satp's fields, the PPN below the ASID, and the mode's number
+// that turns translation on.
 pub struct Format {
     pub bytes: u8,
     pub space: u8,
     pub top: u8,
     pub ones: u64,
+    pub asid_at: u8,
+    pub asid_bits: u8,
+    pub mode_at: u8,
+    pub mode_bits: u8,
+    pub mode: u8,
 }
 
 // The page classes of a scheme in ascending order, `count` of them, and 0 behind.
@@ -77,13 +84,6 @@ impl PagingScheme {
         (self.offset_bits == 12) & ((self.levels == 3) & nines)
     }
 
-    // The bits of a virtual address that the scheme looks at.
-    fn address_bits(self) -> u8
-        ensures { λ r. ⌜ r ≡ addressBits self ⌝ }
-    {
-        if self.is_sv39() { 39 } else { 32 }
-    }
-
     pub fn format(self) -> Format
         ensures { λ r. ⌜ r ≡ formatOf self ⌝ }
     {
@@ -93,6 +93,11 @@ impl PagingScheme {
                 space: 56,
                 top: 38,
                 ones: 0x3FF_FFFF,
+                asid_at: 44,
+                asid_bits: 16,
+                mode_at: 60,
+                mode_bits: 4,
+                mode: 8,
             };
         }
         Format {
@@ -100,26 +105,37 @@ impl PagingScheme {
             space: 32,
             top: 32,
             ones: 0,
+            asid_at: 22,
+            asid_bits: 9,
+            mode_at: 31,
+            mode_bits: 1,
+            mode: 1,
         }
     }
 
-    // The fields of satp, as the scheme has them.
+    // satp's mode, as the scheme's format has it.
     pub fn satp_mode(self, satp: Satp) -> SatpMode
         ensures { λ r. ⌜ r ≡ modeOf self (satp .raw) ⌝ }
     {
-        satp.mode(self.is_sv39())
+        let f = self.format();
+        let n = bits::field(satp.raw, f.mode_at, f.mode_bits);
+        satp::mode_named(f.mode, n)
     }
 
     pub fn asid_of(self, satp: Satp) -> u16
         ensures { λ r. ⌜ r ≡ asidOf self (satp .raw) ⌝ }
     {
-        satp.asid(self.is_sv39())
+        let f = self.format();
+        let n = bits::field(satp.raw, f.asid_at, f.asid_bits);
+        n as u16
     }
 
+    // The frame of the root table.
     pub fn root_of(self, satp: Satp) -> u64
         ensures { λ r. ⌜ r ≡ rootOf self (satp .raw) ⌝ }
     {
-        satp.ppn(self.is_sv39())
+        let f = self.format();
+        bits::low_bits(satp.raw, f.asid_at as u32)
     }
 
     pub fn num_levels(self) -> u8
@@ -175,20 +191,19 @@ impl PagingScheme {
         ok
     }
 
-    pub fn is_valid(self) -> bool
-        ensures { λ r. ⌜ r ≡ validOf self ⌝ }
-    {
-        let offset = (12 <= self.offset_bits) & (self.offset_bits <= 30);
-        let count = (1 <= self.levels) & (self.levels <= 4);
-        let all = self.address_bits() as u32;
-        offset & (count & (self.widths_ok() & (self.total_bits() == all)))
-    }
-
     // Whether it is one of document 01's schemes.
     pub fn is_bought(self) -> bool
         ensures { λ r. ⌜ r ≡ boughtOf self ⌝ }
     {
-        self.is_valid() & !self.is_sv39()
+        let offset = (12 <= self.offset_bits) & (self.offset_bits <= 30);
+        let count = (1 <= self.levels) & (self.levels <= 4);
+        offset & (count & (self.widths_ok() & (self.total_bits() == 32)))
+    }
+
+    pub fn is_valid(self) -> bool
+        ensures { λ r. ⌜ r ≡ validOf self ⌝ }
+    {
+        self.is_bought() | self.is_sv39()
     }
 
     // Whether the scheme is valid and has this level.
@@ -209,7 +224,8 @@ impl PagingScheme {
         ensures { λ r. ⌜ r ≡ shiftAt self level ⌝ }
     {
         if self.knows(level) {
-            return Asked::Is(self.shift_below(level));
+            let shift = self.shift_below(level) as u64;
+            return Asked::Is(shift);
         }
         Asked::Refused(Refusal::BadScheme)
     }
@@ -220,7 +236,7 @@ impl PagingScheme {
     {
         if self.knows(level) {
             let shift = self.shift_below(level);
-            let bytes = 1u32 << shift;
+            let bytes = 1u64 << shift;
             return Asked::Is(bytes);
         }
         Asked::Refused(Refusal::BadScheme)
@@ -233,7 +249,7 @@ impl PagingScheme {
         if self.knows(level) {
             let i = level as usize;
             let w = self.level_bits[i];
-            let entries = 1u32 << w;
+            let entries = 1u64 << w;
             return Asked::Is(entries);
         }
         Asked::Refused(Refusal::BadScheme)
@@ -246,7 +262,7 @@ impl PagingScheme {
     {
         let n = self.levels as usize;
         let mut masks = [0u8; 4];
-        let mut rest = self.address_bits() - self.offset_bits;
+        let mut rest = self.total_bits() as u8 - self.offset_bits;
         let mut i = 0;
         while i < n {
             let w = self.level_bits[i];
@@ -277,12 +293,12 @@ impl PagingScheme {
     }
 
     // Where the top table starts in a RAM of `mem_size` bytes: as high as it fits.
-    pub fn root_pa(self, mem_size: u32) -> Asked
+    pub fn root_pa(self, mem_size: u64) -> Asked
         ensures { λ r. ⌜ r ≡ rootPa self «mem_size» ⌝ }
     {
         if self.is_valid() {
             let w = self.level_bits[0];
-            let size = self.format().bytes as u32;
+            let size = self.format().bytes as u64;
             let bytes = size << w;
             let room = (bytes + 4095) / 4096 * 4096;
             if mem_size < room {

@@ -17,7 +17,7 @@ pub enum Refusal {
 
 // A number that was asked for, or the refusal.
 pub enum Asked {
-    Is(u32),
+    Is(u64),
     Refused(Refusal),
 }
 

@@ -1,13 +1,13 @@
-// The register satp: bit 31 is the mode (0 Bare), bits 30-22 the ASID, 21-0 the PPN of the root table. `wide`, of Sv39: bits 63-60 are the
-// mode (0 Bare, 8 Sv39), 59-44 the ASID, 43-0 the PPN.
+// The register satp, whose fields the scheme's format places, and the words that turn translation on for a root table.
 ghost use mathlib.Core.Path.{_≡_};
-ghost use Rattle.scheme.specs.Satp.{satpWith, modeIn, asidIn, rootIn, satpOf};
+ghost use Rattle.scheme.specs.Scheme.{sv32, sv39};
+ghost use Rattle.scheme.specs.Satp.{satpWith, modeNamed, satpIn};
 
+// Bare; on, by the scheme's own number; or a number that is neither.
 pub enum SatpMode {
     Bare,
-    Sv32,
-    Sv39,
-    Unknown,
+    Paged,
+    Neither,
 }
 
 pub struct Satp {
@@ -20,50 +20,31 @@ impl Satp {
     {
         Satp { raw }
     }
+}
 
-    pub fn mode(self, wide: bool) -> SatpMode
-        ensures { λ r. ⌜ r ≡ modeIn wide (self .raw) ⌝ }
-    {
-        if wide {
-            let field = self.raw >> 60;
-            if field == 0 {
-                return SatpMode::Bare;
-            }
-            if field == 8 {
-                return SatpMode::Sv39;
-            }
-            return SatpMode::Unknown;
-        }
-        if (self.raw >> 31) & 1 == 0 {
-            return SatpMode::Bare;
-        }
-        SatpMode::Sv32
+// What a mode's number says, where `on` turns translation on.
+pub fn mode_named(on: u8, n: u64) -> SatpMode
+    ensures { λ r. ⌜ r ≡ modeNamed on n ⌝ }
+{
+    if n == 0 {
+        return SatpMode::Bare;
     }
-
-    pub fn asid(self, wide: bool) -> u16
-        ensures { λ r. ⌜ r ≡ asidIn wide (self .raw) ⌝ }
-    {
-        if wide {
-            let field = (self.raw >> 44) & 0xFFFF;
-            return field as u16;
-        }
-        let field = (self.raw >> 22) & 0x1FF;
-        field as u16
+    if n == on as u64 {
+        return SatpMode::Paged;
     }
-
-    pub fn ppn(self, wide: bool) -> u64
-        ensures { λ r. ⌜ r ≡ rootIn wide (self .raw) ⌝ }
-    {
-        if wide {
-            return self.raw & 0xFFF_FFFF_FFFF;
-        }
-        self.raw & 0x003F_FFFF
-    }
+    SatpMode::Neither
 }
 
 // The satp of mode 1 for the root table's address.
 pub fn make_satp(root_pa: u32, asid: u16) -> u32
-    ensures { λ r. ⌜ r ≡ satpOf «root_pa» asid ⌝ }
+    ensures { λ r. ⌜ r ≡ satpIn sv32 «root_pa» asid ⌝ }
 {
     (1u32 << 31) | (((asid as u32) & 0x1FF) << 22) | (root_pa >> 12)
+}
+
+// The same for Sv39, of mode 8.
+pub fn make_satp39(root_pa: u64, asid: u16) -> u64
+    ensures { λ r. ⌜ r ≡ satpIn sv39 «root_pa» asid ⌝ }
+{
+    (8u64 << 60) | ((asid as u64) << 44) | ((root_pa >> 12) & 0xFFF_FFFF_FFFF)
 }

@@ -20,7 +20,7 @@ use Rattle.walk.specs.declared.WalkAnswer.{WalkAnswer}
 use Rattle.walk.specs.declared.WalkResult.{WalkResult}
 use Rattle.walk.specs.declared.Walked.the-variants.{Ok, Err}
 use Rattle.walk.proofs.Judged.{end-shift}
-use Rattle.walks.proofs.Claims.{block-sizes}
+use Rattle.walks.proofs.Claims.{scheme-blocks}
 use Rattle.tlb.specs.State.{Geo, tlbInstall, tlbProbe}
 use Rattle.tlb.specs.declared.Tlb.{Tlb}
 use Rattle.tlb.specs.declared.Lookup.{Lookup}
@@ -83,7 +83,7 @@ page-small s root ram q r ok f = go (walkOf s root ram q) refl f
     go : (v : Verdict) → walkOf s root ram q ≡ v → answerOf (formatOf s) q v .answer ≡ Ok r → r .«page_bits» < 32
     go (Page l) e f =
         let k : resultOf (formatOf s) (q .vaddr) l ≡ r = cc in
-        omega (arith, block-sizes s root ram (q .vaddr) ok .1, end-shift q (descentOf ram root s (q .vaddr)) l e, ap (λ (x : WalkResult). x .«page_bits») k)
+        omega (arith, scheme-blocks s root ram (q .vaddr) ok .high, end-shift q (descentOf ram root s (q .vaddr)) l e, ap (λ (x : WalkResult). x .«page_bits») k)
     go (Fault why level) e f = let z : _≡_ {A = ℕ} 0 1 = cc in absurd (omega arith)
 
 -- ---- which case of the definitions holds

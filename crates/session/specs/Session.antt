@@ -4,7 +4,7 @@ use mathlib.Core.Bool.{cond}
 use mathlib.Core.List.{List, [], _∷_}
 use Rattle.scheme.specs.Refusals.{onGrant}
 use Rattle.scheme.specs.Satp.{satpWith}
-use Rattle.scheme.specs.Scheme.{boughtOf}
+use Rattle.scheme.specs.Scheme.{validOf}
 use Rattle.scheme.specs.declared.refusal.Refusal.the-variants.{BadScheme}
 use Rattle.scheme.specs.declared.refusal.Said.{Said}
 use Rattle.scheme.specs.declared.refusal.Said.the-variants.{Refused}
@@ -31,9 +31,9 @@ switched m t =
       «tlb_enabled» = t .«tlb_on»;
     }
 
--- "The program tests .. 1, 2"
+-- 1, then 2. Refusal 10 is no setting's: `translate` gives it
 unfoldable pub settingsSaid : TlbConfig → Settings → Said
-settingsSaid config t = cond (boughtOf (t .scheme)) (newOf config .said) (Refused BadScheme)
+settingsSaid config t = cond (validOf (t .scheme)) (newOf config .said) (Refused BadScheme)
 
 -- what `new`, `set_scheme` and the switches give: "an empty cache of its own size and policy, scheme, satp and switches"; where the settings are
 -- refused, "the default one", as "from a refused `new`"

@@ -8,7 +8,9 @@ use scheme::Satp;
 use state::Mmu;
 use walk::Access;
 ghost use mathlib.Core.Path.{_≡_};
-ghost use Rattle.mmu.specs.Calls.{setSchemeOf};
+ghost use Rattle.entry.specs.Geometry.{defaultConfig};
+ghost use Rattle.state.specs.State.{stateNew};
+ghost use Rattle.mmu.specs.Calls.{refusedWith, setSchemeOf};
 ghost use Rattle.session.specs.Session.{switched, startOf, settingsSaid};
 
 // What stays as it is while a session runs; the TLB's configuration is not part of it.
@@ -42,18 +44,25 @@ fn take_over(blank: Mmu, t: Settings) -> Mmu
     m
 }
 
+// What settings that are refused give: the default state.
+pub fn refused(why: Refusal) -> Kept
+    ensures { λ r. ⌜ r ≡ refusedWith why (stateNew defaultConfig) ⌝ }
+{
+    let plain = mmu::new(entry::default_config());
+    let blank = plain.mmu;
+    Kept {
+        said: Said::Refused(why),
+        mmu: blank,
+    }
+}
+
 // The state that a configuration and settings give, or why they are refused and the default state.
 pub fn set_up(config: TlbConfig, t: Settings) -> Kept
     ensures { λ r. ⌜ (r .said ≡ settingsSaid config t) × (r .mmu ≡ startOf config t) ⌝ }
 {
     let s = t.scheme;
-    if !s.is_bought() {
-        let plain = mmu::new(entry::default_config());
-        let blank = plain.mmu;
-        return Kept {
-            said: Said::Refused(Refusal::BadScheme),
-            mmu: blank,
-        };
+    if !s.is_valid() {
+        return refused(Refusal::BadScheme);
     }
     let fresh = mmu::new(config);
     let said = fresh.said;

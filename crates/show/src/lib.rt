@@ -3,10 +3,14 @@ pub fn text(s: &[u8]) {
     io::write_all(1, s);
 }
 
-// A space, and eight hexadecimal digits.
+// A space, and eight hexadecimal digits, or sixteen where eight do not hold the number.
 pub fn hex(n: u64) {
     text(b" ");
-    io::print_hex(1, n, 8);
+    if n < 0x1_0000_0000 {
+        io::print_hex(1, n, 8);
+    } else {
+        io::print_hex(1, n, 16);
+    }
 }
 
 // A space, and a decimal.

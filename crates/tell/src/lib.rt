@@ -10,16 +10,21 @@ use walk::Walked;
 use walker::Found;
 use walker::Reason;
 
-pub fn put(ram: &mut [u8], at: u32, word: u32) {
-    memory::store(ram, at as u64, 4, 32, word as u64);
+// A word of four bytes, or of a 64-bit board's eight.
+pub fn put(ram: &mut [u8], at: u64, word: u64, wide: bool) {
+    if wide {
+        memory::store(ram, at, 8, 56, word);
+    } else {
+        memory::store(ram, at, 4, 32, word);
+    }
 }
 
-fn byte(n: u32) -> u8 {
+fn byte(n: u64) -> u8 {
     (n % 256) as u8
 }
 
 // A scheme of up to four widths, a byte each, the top one first.
-pub fn scheme_of(offset_bits: u32, levels: u32, widths: u32) -> PagingScheme {
+pub fn scheme_of(offset_bits: u64, levels: u64, widths: u64) -> PagingScheme {
     let top = byte(widths / 0x100_0000);
     let second = byte(widths / 0x1_0000);
     let third = byte(widths / 0x100);
@@ -31,7 +36,7 @@ pub fn scheme_of(offset_bits: u32, levels: u32, widths: u32) -> PagingScheme {
     }
 }
 
-fn kind_of(n: u32) -> AccessType {
+fn kind_of(n: u64) -> AccessType {
     match n {
         0 => AccessType::Fetch,
         1 => AccessType::Load,
@@ -39,7 +44,7 @@ fn kind_of(n: u32) -> AccessType {
     }
 }
 
-fn mode_of(n: u32) -> PrivMode {
+fn mode_of(n: u64) -> PrivMode {
     match n {
         0 => PrivMode::U,
         1 => PrivMode::S,
@@ -48,9 +53,9 @@ fn mode_of(n: u32) -> PrivMode {
 }
 
 // Who asks, by the numbers that the trace bundle has for kind and privilege.
-pub fn asked(vaddr: u32, kind: u32, mode: u32) -> Access {
+pub fn asked(vaddr: u64, kind: u64, mode: u64) -> Access {
     Access {
-        vaddr: vaddr as u64,
+        vaddr,
         kind: kind_of(kind),
         mode: mode_of(mode),
     }
@@ -96,8 +101,8 @@ fn reason_name(why: Reason) {
 }
 
 // The reason of a fault and its level, by the descent and the judgement alone.
-fn verdict(ram: &[u8], s: PagingScheme, root: u32, access: Access) {
-    let Found::At(d) = walker::find(ram, root as u64, s, access.vaddr) else {
+fn verdict(ram: &[u8], s: PagingScheme, root: u64, access: Access) {
+    let Found::At(d) = walker::find(ram, root, s, access.vaddr) else {
         return;
     };
     match walk::judge(d, access) {
@@ -144,17 +149,22 @@ fn replied(q: Access, reply: Reply) {
 }
 
 // The word at an address, or a dash.
-pub fn word(ram: &[u8], at: u32) {
-    match memory::load(ram, at as u64, 4, 32) {
+pub fn word(ram: &[u8], at: u64, wide: bool) {
+    let read = if wide {
+        memory::load(ram, at, 8, 56)
+    } else {
+        memory::load(ram, at, 4, 32)
+    };
+    match read {
         Word::Is(x) => show::hex(x),
         Word::Unreadable => show::text(b" -"),
     }
 }
 
 // One walk: who asks, the answer, the words asked for, the word at `leaf` afterwards, and the reason of a fault.
-pub fn walked(ram: &mut [u8], s: PagingScheme, root: u32, access: Access, leaf: u32) {
-    replied(access, walk::walk(s, root as u64, ram, access));
-    word(ram, leaf);
+pub fn walked(ram: &mut [u8], s: PagingScheme, root: u64, access: Access, leaf: u64, wide: bool) {
+    replied(access, walk::walk(s, root, ram, access));
+    word(ram, leaf, wide);
     verdict(ram, s, root, access);
     show::end();
 }

@@ -9,22 +9,22 @@ use lib.Dec.{eqb, ltb}
 use lib.ListN.{length, getD, take, drop, length-take, List·getD-eq-default}
 use lib.Seq.{getD-take, getD-drop, take-all, length-take-le}
 use borrow.Author.Tests.{ltb-true, ltb-false, eqb-true, eqb-false, le-ltb}
-use Rattle.scheme.specs.Scheme.{boughtOf}
+use Rattle.scheme.specs.Scheme.{boughtOf, validOf}
 use Rattle.scheme.specs.declared.PagingScheme.{PagingScheme}
 use Rattle.scheme.specs.declared.refusal.Refusal.{Refusal}
 use Rattle.scheme.specs.declared.refusal.Refusal.the-variants.{BadScheme, BadLayout}
 use Rattle.scheme.specs.declared.refusal.Said.{Said}
 use Rattle.scheme.specs.declared.refusal.Said.the-variants.{Granted, Refused}
+use Rattle.scheme.proofs.Widths.{bought}
 use Rattle.entry.specs.declared.TlbConfig.{TlbConfig}
-use Rattle.mmu.proofs.Refusing.{bought-known}
-use Rattle.mmu.specs.Calls.{modeKnown, roomFor, newOf, grantedWith, refusedWith}
+use Rattle.mmu.specs.Calls.{roomFor, newOf, grantedWith, refusedWith}
 use Rattle.state.specs.declared.Mmu.{Mmu}
-use Rattle.session.specs.Session.{settingsSaid}
+use Rattle.session.specs.Session.{settingsSaid, startOf}
 use Rattle.session.specs.declared.Settings.{Settings}
-use Rattle.order.specs.Claims.{Ready}
+use Rattle.order.specs.Claims.{ModeGiven, Empty, Ready}
 use Rattle.walks.specs.Plain.{Bytes}
 use Rattle.order.proofs.Claims.{start-is-empty, any-order, never-refused}
-use Rattle.order.proofs.Steps.{start-settings, start-fit}
+use Rattle.order.proofs.Fit.{mode-01}
 use Rattle.maps.proofs.Claims.{bytes-stay}
 use Rattle.text.specs.Lines.{refusedLine}
 use Rattle.layout.specs.Layout.{mapLen, goodOf}
@@ -34,8 +34,8 @@ use Rattle.bundle.specs.declared.MapPart.{MapPart}
 use Rattle.bundle.specs.declared.MapPart.the-variants.{None, Map}
 use Rattle.bundle.specs.declared.Parts.{Parts}
 use Rattle.bundle.proofs.Claims.{granted-is-good, parts-inside}
-use Rattle.bundle_run.specs.Parts.{printed, partsText, mapRam, roomOf}
-use Rattle.run.specs.Run.{firstOf, partsIn, earlyIn, outputOf}
+use Rattle.bundle_run.specs.Parts.{bundleSaid, bundleStart, printed, partsText, mapRam, roomOf}
+use Rattle.run.specs.Run.{firstOf, partsIn, startIn, earlyIn, outputOf}
 use Rattle.traces.specs.Claims.{eventsIn, ramIn, NothingRefused, EachIsPlain, BuffersFit, CutIsEnough}
 
 -- both of two answers are granted where the first refusal of them is none
@@ -44,14 +44,27 @@ unfolding firstOf
 both Granted b e = (refl, e)
 both (Refused why) b e = let z : _≡_ {A = ℕ} 0 1 = cc in absurd (omega arith)
 
-module _ (config : TlbConfig) (t : Settings) (e : settingsSaid config t ≡ Granted) where
-  valid-new : (boughtOf (t .scheme) ≡ true) × (newOf config .said ≡ Granted)
-  unfolding settingsSaid
-  valid-new = go (boughtOf (t .scheme)) refl e
+-- what a test let through
+module _ (test : Bool) (next : Said) (e : cond test next (Refused BadScheme) ≡ Granted) where
+  let-through : (test ≡ true) × (next ≡ Granted)
+  let-through = go test next e
     where
-      go : (b : Bool) → boughtOf (t .scheme) ≡ b → cond b (newOf config .said) (Refused BadScheme) ≡ Granted → (boughtOf (t .scheme) ≡ true) × (newOf config .said ≡ Granted)
-      go true v h = (v, h)
-      go false v h = let z : _≡_ {A = ℕ} 0 1 = cc in absurd (omega arith)
+      go : (b : Bool) (n : Said) → cond b n (Refused BadScheme) ≡ Granted → (b ≡ true) × (n ≡ Granted)
+      go true n h = (refl, h)
+      go false n h = let z : _≡_ {A = ℕ} 0 1 = cc in absurd (omega arith)
+
+module _ (config : TlbConfig) (t : Settings) (e : bundleSaid config t ≡ Granted) where
+  is-bought : (boughtOf (t .scheme) ≡ true) × (settingsSaid config t ≡ Granted)
+  unfolding bundleSaid
+  is-bought = let-through (boughtOf (t .scheme)) _ e
+
+  new-granted : newOf config .said ≡ Granted
+  unfolding settingsSaid
+  new-granted = let-through (validOf (t .scheme)) _ (is-bought .1) .1
+
+  start-is : bundleStart config t ≡ startOf config t
+  unfolding bundleStart
+  start-is = rw (is-bought .0)
 
 -- `new` grants a configuration with room
 granted-if : (b : Bool) (m n : Mmu) (why : Refusal) → cond b (grantedWith m) (refusedWith why n) .said ≡ Granted → b ≡ true
@@ -69,17 +82,28 @@ four s e = ap (λ (p : Parts). length (p .settings .scheme .«level_bits»)) (gr
 
 -- what the settings of a file that is not refused early are
 module _ (s : List ℕ) (e : earlyIn s ≡ Granted) where
+  said : bundleSaid (partsIn s .config) (partsIn s .settings) ≡ Granted
+  said = both _ _ e .1
+
   ready : Ready (partsIn s .settings)
   ready =
-      let h = both _ _ e in
-      record { valid = valid-new (partsIn s .config) (partsIn s .settings) (h .1) .0; four = four s (h .0) }
+      let b = is-bought (partsIn s .config) (partsIn s .settings) said .0 in
+      record {
+        valid = bought (partsIn s .settings .scheme) b;
+        mode = mode-01 (partsIn s .settings .scheme) (partsIn s .settings .satp) b;
+        four = four s (both _ _ e .0);
+      }
 
-  room : roomFor (partsIn s .config) ≡ true
-  room = new-room _ (valid-new (partsIn s .config) (partsIn s .settings) (both _ _ e .1) .1)
+  empty : Empty (partsIn s .settings) (startIn s)
+  empty =
+      rw (start-is (partsIn s .config) (partsIn s .settings) said)
+      (start-is-empty (partsIn s .settings) ready (partsIn s .config) (new-room _ (new-granted (partsIn s .config) (partsIn s .settings) said)))
 
 pub nothing-refused : NothingRefused
-nothing-refused s e = never-refused (eventsIn s) _ (ramIn s) (start-fit (partsIn s .settings) (partsIn s .config) (ready s e) (room s e))
-    (subst (λ (x : Settings). modeKnown (x .scheme) (x .satp) ≡ true) (sym (start-settings (partsIn s .settings) (partsIn s .config) (ready s e) (room s e))) (bought-known (partsIn s .settings .scheme) (partsIn s .settings .satp) (ready s e .valid)))
+nothing-refused s e =
+    let start = empty s e in
+    let run = never-refused (eventsIn s) (startIn s) (ramIn s) (start .fit) in
+    (run .none (subst (λ (x : Settings). ModeGiven (x .scheme) (x .satp)) (sym (start .settings)) (start .mode)), run .fit)
 
 -- ---- the answers
 
@@ -100,10 +124,8 @@ map-bytes s (Map b) ram small = bytes-stay s (b .spec) (b .window) (b .root) ram
 
 pub each-is-plain : EachIsPlain
 each-is-plain s small e =
-    let config = partsIn s .config in
     let bytes = map-bytes (partsIn s .settings .scheme) (partsIn s .map) _ (part-bytes (partsIn s .«ram_len») (partsIn s .«ram_start») s small) in
-    let start = start-is-empty (partsIn s .settings) (ready s e) config (room s e) in
-    any-order (partsIn s .settings) (ramIn s) bytes _ _ start start (eventsIn s) (eventsIn s) Perm·rfl .0 .each
+    any-order (partsIn s .settings) (ramIn s) bytes _ _ (empty s e) (empty s e) (eventsIn s) (eventsIn s) Perm·rfl .0 .each
 
 -- ---- the program's buffers
 

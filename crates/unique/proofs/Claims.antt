@@ -6,6 +6,7 @@ use Rattle.unique.proofs.Law.{free, fixed}
 
 pub memory : Memory
 memory = record {
+  «is_readable» = λ M 𝓤 H A mem run. (refl, λ κs a. (free 𝓤, fixed 𝓤 _ _ _ (λ r left p. (p, refl))));
   load32 = λ M 𝓤 H A mem run. (refl, λ κs a. (free 𝓤, fixed 𝓤 _ _ _ (λ r left p. (p, refl))));
   store32 = λ M 𝓤 H A mem run. (refl, λ κs a. (free 𝓤, fixed 𝓤 _ _ _ (λ r left p. (p .0, ap (λ ram. (ram, (tt, (tt, tt)))) (p .1)))));
 }
@@ -18,6 +19,7 @@ pte = record {
   accessed = λ M 𝓤 H A mem run. (refl, λ κs a. (free 𝓤, fixed 𝓤 _ _ _ (λ r left p. (p, refl))));
   dirty = λ M 𝓤 H A mem run. (refl, λ κs a. (free 𝓤, fixed 𝓤 _ _ _ (λ r left p. (p, refl))));
   ppn = λ M 𝓤 H A mem run. (refl, λ κs a. (free 𝓤, fixed 𝓤 _ _ _ (λ r left p. (p, refl))));
+  high = λ M 𝓤 H A mem run. (refl, λ κs a. (free 𝓤, fixed 𝓤 _ _ _ (λ r left p. (p, refl))));
   «is_leaf» = λ M 𝓤 H A mem run. (refl, λ κs a. (free 𝓤, fixed 𝓤 _ _ _ (λ r left p. (p, refl))));
   «with_a» = λ M 𝓤 H A mem run. (refl, λ κs a. (free 𝓤, fixed 𝓤 _ _ _ (λ r left p. (ap (λ raw. record { raw = raw }) p, refl))));
   «with_d» = λ M 𝓤 H A mem run. (refl, λ κs a. (free 𝓤, fixed 𝓤 _ _ _ (λ r left p. (ap (λ raw. record { raw = raw }) p, refl))));
@@ -27,6 +29,10 @@ pub scheme : Scheme
 scheme = record {
   number = λ M 𝓤 H A mem run. (refl, λ κs a. (free 𝓤, fixed 𝓤 _ _ _ (λ r left p. (p, refl))));
   sv32 = λ M 𝓤 H A mem run. (refl, λ κs a. (free 𝓤, fixed 𝓤 _ _ _ (λ r left p. (p, refl))));
+  sv39 = λ M 𝓤 H A mem run. (refl, λ κs a. (free 𝓤, fixed 𝓤 _ _ _ (λ r left p. (p, refl))));
+  «is_sv39» = λ M 𝓤 H A mem run. (refl, λ κs a. (free 𝓤, fixed 𝓤 _ _ _ (λ r left p. (p, refl))));
+  «is_bought» = λ M 𝓤 H A mem run. (refl, λ κs a. (free 𝓤, fixed 𝓤 _ _ _ (λ r left p. (p, refl))));
+  format = λ M 𝓤 H A mem run. (refl, λ κs a. (free 𝓤, fixed 𝓤 _ _ _ (λ r left p. (p, refl))));
   «num_levels» = λ M 𝓤 H A mem run. (refl, λ κs a. (free 𝓤, fixed 𝓤 _ _ _ (λ r left p. (p, refl))));
   «total_bits» = λ M 𝓤 H A mem run. (refl, λ κs a. (free 𝓤, fixed 𝓤 _ _ _ (λ r left p. (p, refl))));
   «is_valid» = λ M 𝓤 H A mem run. (refl, λ κs a. (free 𝓤, fixed 𝓤 _ _ _ (λ r left p. (p, refl))));
@@ -36,10 +42,11 @@ scheme = record {
   «leaf_masks» = λ M 𝓤 H A mem run. (refl, λ κs a. (free 𝓤, fixed 𝓤 _ _ _ (λ r left p. (p, refl))));
   «root_pa» = λ M 𝓤 H A mem run. (refl, λ κs a. (free 𝓤, fixed 𝓤 _ _ _ (λ r left p. (p, refl))));
   new = λ M 𝓤 H A mem run. (refl, λ κs a. (free 𝓤, fixed 𝓤 _ _ _ (λ r left p. (p, refl))));
-  mode = λ M 𝓤 H A mem run. (refl, λ κs a. (free 𝓤, fixed 𝓤 _ _ _ (λ r left p. (p, refl))));
-  asid = λ M 𝓤 H A mem run. (refl, λ κs a. (free 𝓤, fixed 𝓤 _ _ _ (λ r left p. (p, refl))));
-  ppn = λ M 𝓤 H A mem run. (refl, λ κs a. (free 𝓤, fixed 𝓤 _ _ _ (λ r left p. (p, refl))));
+  «satp_mode» = λ M 𝓤 H A mem run. (refl, λ κs a. (free 𝓤, fixed 𝓤 _ _ _ (λ r left p. (p, refl))));
+  «asid_of» = λ M 𝓤 H A mem run. (refl, λ κs a. (free 𝓤, fixed 𝓤 _ _ _ (λ r left p. (p, refl))));
+  «root_of» = λ M 𝓤 H A mem run. (refl, λ κs a. (free 𝓤, fixed 𝓤 _ _ _ (λ r left p. (p, refl))));
   «make_satp» = λ M 𝓤 H A mem run. (refl, λ κs a. (free 𝓤, fixed 𝓤 _ _ _ (λ r left p. (p, refl))));
+  «make_satp39» = λ M 𝓤 H A mem run. (refl, λ κs a. (free 𝓤, fixed 𝓤 _ _ _ (λ r left p. (p, refl))));
   «delta_bytes» = λ M 𝓤 H A mem run. (refl, λ κs a. (free 𝓤, fixed 𝓤 _ _ _ (λ r left p. (p, refl))));
   «page_fault_cause» = λ M 𝓤 H A mem run. (refl, λ κs a. (free 𝓤, fixed 𝓤 _ _ _ (λ r left p. (p, refl))));
 }
@@ -130,6 +137,9 @@ image-read = record {
 pub imaged : Imaged
 imaged = record {
   «said_number» = λ M 𝓤 H A mem run. (refl, λ κs a. (free 𝓤, fixed 𝓤 _ _ _ (λ r left p. (p, refl))));
+  flush = λ M 𝓤 H A mem run. (refl, λ κs a. (free 𝓤, fixed 𝓤 _ _ _ (λ r left p. (p .0, ap (λ image. (image, tt)) (p .1)))));
+  «flush_vaddr» = λ M 𝓤 H A mem run. (refl, λ κs a. (free 𝓤, fixed 𝓤 _ _ _ (λ r left p. (p .0, ap (λ image. (image, (tt, tt))) (p .1)))));
+  translate = λ M 𝓤 H A mem run. (refl, λ κs a. (free 𝓤, fixed 𝓤 _ _ _ (λ r left p. (p .0, ap₂ (λ image rest. (image, (tt, (tt, (tt, rest))))) (p .1) (ap₂ (λ ram told. (ram, (told, tt))) (p .2) (p .3))))));
   «set_scheme» = λ M 𝓤 H A mem run. (refl, λ κs a. (free 𝓤, fixed 𝓤 _ _ _ (λ r left p. (p .0, ap (λ image. (image, (tt, tt))) (p .1)))));
   reconfigure = λ M 𝓤 H A mem run. (refl, λ κs a. (free 𝓤, fixed 𝓤 _ _ _ (λ r left p. (p .0, ap (λ image. (image, (tt, tt))) (p .1)))));
 }
@@ -148,9 +158,13 @@ ffi = record {
   «muntesulca_events» = λ M 𝓤 H A mem run. (refl, λ κs a. (free 𝓤, fixed 𝓤 _ _ _ (λ r left p. (p .0, ap₂ (λ image ram. (image, (tt, (ram, tt)))) (p .1) (p .2)))));
   «muntesulca_set_scheme» = λ M 𝓤 H A mem run. (refl, λ κs a. (free 𝓤, fixed 𝓤 _ _ _ (λ r left p. (p .0, ap (λ image. (image, (tt, tt))) (p .1)))));
   «muntesulca_reconfigure» = λ M 𝓤 H A mem run. (refl, λ κs a. (free 𝓤, fixed 𝓤 _ _ _ (λ r left p. (p .0, ap (λ image. (image, (tt, tt))) (p .1)))));
+  «muntesulca_flush» = λ M 𝓤 H A mem run. (refl, λ κs a. (free 𝓤, fixed 𝓤 _ _ _ (λ r left p. (p .0, ap (λ image. (image, tt)) (p .1)))));
+  «muntesulca_flush_vaddr» = λ M 𝓤 H A mem run. (refl, λ κs a. (free 𝓤, fixed 𝓤 _ _ _ (λ r left p. (p .0, ap (λ image. (image, (tt, tt))) (p .1)))));
+  «muntesulca_translate» = λ M 𝓤 H A mem run. (refl, λ κs a. (free 𝓤, fixed 𝓤 _ _ _ (λ r left p. (p .0, ap₂ (λ image rest. (image, (tt, (tt, (tt, rest))))) (p .1) (ap₂ (λ ram told. (ram, (told, tt))) (p .2) (p .3))))));
   «muntesulca_install» = λ M 𝓤 H A mem run. (refl, λ κs a. (free 𝓤, fixed 𝓤 _ _ _ (λ r left p. (p .0, ap (λ ram. (tt, (tt, (ram, tt)))) (p .1)))));
-  «muntesulca_walk» = λ M 𝓤 H A mem run. (refl, λ κs a. (free 𝓤, fixed 𝓤 _ _ _ (λ r left p. (p .0, ap₂ (λ ram told. (tt, (tt, (tt, (ram, (told, tt)))))) (p .1) (p .2)))));
+  «muntesulca_walk» = λ M 𝓤 H A mem run. (refl, λ κs a. (free 𝓤, fixed 𝓤 _ _ _ (λ r left p. (p .0, ap₂ (λ ram told. (tt, (tt, (tt, (tt, (tt, (ram, (told, tt)))))))) (p .1) (p .2)))));
   «muntesulca_root_pa» = λ M 𝓤 H A mem run. (refl, λ κs a. (free 𝓤, fixed 𝓤 _ _ _ (λ r left p. (p, refl))));
   «muntesulca_make_satp» = λ M 𝓤 H A mem run. (refl, λ κs a. (free 𝓤, fixed 𝓤 _ _ _ (λ r left p. (p, refl))));
+  «muntesulca_make_satp39» = λ M 𝓤 H A mem run. (refl, λ κs a. (free 𝓤, fixed 𝓤 _ _ _ (λ r left p. (p, refl))));
   «muntesulca_delta_bytes» = λ M 𝓤 H A mem run. (refl, λ κs a. (free 𝓤, fixed 𝓤 _ _ _ (λ r left p. (p, refl))));
 }

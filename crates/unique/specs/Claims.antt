@@ -22,6 +22,7 @@ use Rattle.ffi.proofs as ffi
 use Rattle.unique.specs.OneAnswer.{Promise}
 
 pub record Memory : Type 2 where
+  pub «is_readable» : Promise memory.is_readable.ended (λ M. memory.is_readable.clauses) (λ M. memory.is_readable.spec)
   pub load32 : Promise memory.load32.ended (λ M. memory.load32.clauses) (λ M. memory.load32.spec)
   pub store32 : Promise memory.store32.ended (λ M. memory.store32.clauses) (λ M. memory.store32.spec)
 
@@ -32,6 +33,7 @@ pub record Pte : Type 2 where
   pub accessed : Promise pte.Pte.accessed.ended (λ M. pte.Pte.accessed.clauses) (λ M. pte.Pte.accessed.spec)
   pub dirty : Promise pte.Pte.dirty.ended (λ M. pte.Pte.dirty.clauses) (λ M. pte.Pte.dirty.spec)
   pub ppn : Promise pte.Pte.ppn.ended (λ M. pte.Pte.ppn.clauses) (λ M. pte.Pte.ppn.spec)
+  pub high : Promise pte.Pte.high.ended (λ M. pte.Pte.high.clauses) (λ M. pte.Pte.high.spec)
   pub «is_leaf» : Promise pte.Pte.is_leaf.ended (λ M. pte.Pte.is_leaf.clauses) (λ M. pte.Pte.is_leaf.spec)
   pub «with_a» : Promise pte.Pte.with_a.ended (λ M. pte.Pte.with_a.clauses) (λ M. pte.Pte.with_a.spec)
   pub «with_d» : Promise pte.Pte.with_d.ended (λ M. pte.Pte.with_d.clauses) (λ M. pte.Pte.with_d.spec)
@@ -39,6 +41,10 @@ pub record Pte : Type 2 where
 pub record Scheme : Type 2 where
   pub number : Promise scheme.refusal.Refusal.number.ended (λ M. scheme.refusal.Refusal.number.clauses) (λ M. scheme.refusal.Refusal.number.spec)
   pub sv32 : Promise scheme.PagingScheme.sv32.ended (λ M. scheme.PagingScheme.sv32.clauses) (λ M. scheme.PagingScheme.sv32.spec)
+  pub sv39 : Promise scheme.PagingScheme.sv39.ended (λ M. scheme.PagingScheme.sv39.clauses) (λ M. scheme.PagingScheme.sv39.spec)
+  pub «is_sv39» : Promise scheme.PagingScheme.is_sv39.ended (λ M. scheme.PagingScheme.is_sv39.clauses) (λ M. scheme.PagingScheme.is_sv39.spec)
+  pub «is_bought» : Promise scheme.PagingScheme.is_bought.ended (λ M. scheme.PagingScheme.is_bought.clauses) (λ M. scheme.PagingScheme.is_bought.spec)
+  pub format : Promise scheme.PagingScheme.format.ended (λ M. scheme.PagingScheme.format.clauses) (λ M. scheme.PagingScheme.format.spec)
   pub «num_levels» : Promise scheme.PagingScheme.num_levels.ended (λ M. scheme.PagingScheme.num_levels.clauses) (λ M. scheme.PagingScheme.num_levels.spec)
   pub «total_bits» : Promise scheme.PagingScheme.total_bits.ended (λ M. scheme.PagingScheme.total_bits.clauses) (λ M. scheme.PagingScheme.total_bits.spec)
   pub «is_valid» : Promise scheme.PagingScheme.is_valid.ended (λ M. scheme.PagingScheme.is_valid.clauses) (λ M. scheme.PagingScheme.is_valid.spec)
@@ -48,10 +54,11 @@ pub record Scheme : Type 2 where
   pub «leaf_masks» : Promise scheme.PagingScheme.leaf_masks.ended (λ M. scheme.PagingScheme.leaf_masks.clauses) (λ M. scheme.PagingScheme.leaf_masks.spec)
   pub «root_pa» : Promise scheme.PagingScheme.root_pa.ended (λ M. scheme.PagingScheme.root_pa.clauses) (λ M. scheme.PagingScheme.root_pa.spec)
   pub new : Promise scheme.satp.Satp.new.ended (λ M. scheme.satp.Satp.new.clauses) (λ M. scheme.satp.Satp.new.spec)
-  pub mode : Promise scheme.satp.Satp.mode.ended (λ M. scheme.satp.Satp.mode.clauses) (λ M. scheme.satp.Satp.mode.spec)
-  pub asid : Promise scheme.satp.Satp.asid.ended (λ M. scheme.satp.Satp.asid.clauses) (λ M. scheme.satp.Satp.asid.spec)
-  pub ppn : Promise scheme.satp.Satp.ppn.ended (λ M. scheme.satp.Satp.ppn.clauses) (λ M. scheme.satp.Satp.ppn.spec)
+  pub «satp_mode» : Promise scheme.PagingScheme.satp_mode.ended (λ M. scheme.PagingScheme.satp_mode.clauses) (λ M. scheme.PagingScheme.satp_mode.spec)
+  pub «asid_of» : Promise scheme.PagingScheme.asid_of.ended (λ M. scheme.PagingScheme.asid_of.clauses) (λ M. scheme.PagingScheme.asid_of.spec)
+  pub «root_of» : Promise scheme.PagingScheme.root_of.ended (λ M. scheme.PagingScheme.root_of.clauses) (λ M. scheme.PagingScheme.root_of.spec)
   pub «make_satp» : Promise scheme.make_satp.ended (λ M. scheme.make_satp.clauses) (λ M. scheme.make_satp.spec)
+  pub «make_satp39» : Promise scheme.make_satp39.ended (λ M. scheme.make_satp39.clauses) (λ M. scheme.make_satp39.spec)
   pub «delta_bytes» : Promise scheme.map.MapKind.delta_bytes.ended (λ M. scheme.map.MapKind.delta_bytes.clauses) (λ M. scheme.map.MapKind.delta_bytes.spec)
   pub «page_fault_cause» : Promise scheme.access.AccessType.page_fault_cause.ended (λ M. scheme.access.AccessType.page_fault_cause.clauses) (λ M. scheme.access.AccessType.page_fault_cause.spec)
 
@@ -109,6 +116,9 @@ pub record Imaged : Type 2 where
   pub «said_number» : Promise imaged.said_number.ended (λ M. imaged.said_number.clauses) (λ M. imaged.said_number.spec)
   pub «set_scheme» : Promise imaged.set_scheme.ended (λ M. imaged.set_scheme.clauses) (λ M. imaged.set_scheme.spec)
   pub reconfigure : Promise imaged.reconfigure.ended (λ M. imaged.reconfigure.clauses) (λ M. imaged.reconfigure.spec)
+  pub flush : Promise imaged.flush.ended (λ M. imaged.flush.clauses) (λ M. imaged.flush.spec)
+  pub «flush_vaddr» : Promise imaged.flush_vaddr.ended (λ M. imaged.flush_vaddr.clauses) (λ M. imaged.flush_vaddr.spec)
+  pub translate : Promise imaged.translate.ended (λ M. imaged.translate.clauses) (λ M. imaged.translate.spec)
 
 pub record ImagedRun : Type 2 where
   pub «run_events» : Promise imaged-run.run_events.ended (λ M. imaged-run.run_events.clauses) (λ M. imaged-run.run_events.spec)
@@ -121,8 +131,12 @@ pub record Ffi : Type 2 where
   pub «muntesulca_events» : Promise ffi.muntesulca_events.ended (λ M. ffi.muntesulca_events.clauses) (λ M. ffi.muntesulca_events.spec)
   pub «muntesulca_set_scheme» : Promise ffi.muntesulca_set_scheme.ended (λ M. ffi.muntesulca_set_scheme.clauses) (λ M. ffi.muntesulca_set_scheme.spec)
   pub «muntesulca_reconfigure» : Promise ffi.muntesulca_reconfigure.ended (λ M. ffi.muntesulca_reconfigure.clauses) (λ M. ffi.muntesulca_reconfigure.spec)
+  pub «muntesulca_flush» : Promise ffi.muntesulca_flush.ended (λ M. ffi.muntesulca_flush.clauses) (λ M. ffi.muntesulca_flush.spec)
+  pub «muntesulca_flush_vaddr» : Promise ffi.muntesulca_flush_vaddr.ended (λ M. ffi.muntesulca_flush_vaddr.clauses) (λ M. ffi.muntesulca_flush_vaddr.spec)
+  pub «muntesulca_translate» : Promise ffi.muntesulca_translate.ended (λ M. ffi.muntesulca_translate.clauses) (λ M. ffi.muntesulca_translate.spec)
   pub «muntesulca_install» : Promise ffi.muntesulca_install.ended (λ M. ffi.muntesulca_install.clauses) (λ M. ffi.muntesulca_install.spec)
   pub «muntesulca_walk» : Promise ffi.muntesulca_walk.ended (λ M. ffi.muntesulca_walk.clauses) (λ M. ffi.muntesulca_walk.spec)
   pub «muntesulca_root_pa» : Promise ffi.muntesulca_root_pa.ended (λ M. ffi.muntesulca_root_pa.clauses) (λ M. ffi.muntesulca_root_pa.spec)
   pub «muntesulca_make_satp» : Promise ffi.muntesulca_make_satp.ended (λ M. ffi.muntesulca_make_satp.clauses) (λ M. ffi.muntesulca_make_satp.spec)
+  pub «muntesulca_make_satp39» : Promise ffi.muntesulca_make_satp39.ended (λ M. ffi.muntesulca_make_satp39.clauses) (λ M. ffi.muntesulca_make_satp39.spec)
   pub «muntesulca_delta_bytes» : Promise ffi.muntesulca_delta_bytes.ended (λ M. ffi.muntesulca_delta_bytes.clauses) (λ M. ffi.muntesulca_delta_bytes.spec)

@@ -143,7 +143,7 @@ fn marked(pte: Pte, kind: AccessType) -> Pte
 
 // Marks the leaf's word in RAM, if a mark was missing.
 fn mark(f: Format, ram: &mut [u8], at: u64, raw: u64, kind: AccessType)
-    requires { ⌜ Modest f × (readable (f .space) (f .bytes) (now ram) at ≡ true) ⌝ }
+    requires { ⌜ readable (f .space) (f .bytes) (now ram) at ≡ true ⌝ }
     ensures { λ _. ⌜ now (ram .exit) ≡ markIn f kind (now (ram .entry)) at raw ⌝ }
 {
     let word = marked(Pte::new(raw), kind).raw;

@@ -7,7 +7,7 @@ use script::Step;
 // What walks are made under: the scheme, the root table's frame, and how many bytes of RAM there are.
 struct Setting {
     scheme: PagingScheme,
-    root: u32,
+    root: u64,
     size: usize,
 }
 
@@ -21,6 +21,7 @@ fn walked(t: Setting, ram: &mut [u8], s: Step) {
             t.root,
             tell::asked(s.a, s.b, s.c),
             s.d,
+            s.wide,
         );
     }
 }
@@ -31,7 +32,7 @@ fn perform(t: Setting, ram: &mut [u8], s: Step) -> Setting {
     let mut u = t;
     match op {
         b'#' => (),
-        b'w' => tell::put(ram, s.a, s.b),
+        b'w' => tell::put(ram, s.a, s.b, s.wide),
         b'a' => walked(t, ram, s),
         b'p' => u.scheme = tell::scheme_of(s.a, s.b, s.c),
         b'r' => u.root = s.a,

@@ -9,6 +9,7 @@ use lib.ListN.{drop}
 use lib.Pow.{shr-shr}
 use Rattle.scheme.specs.Scheme.{total, widthsOf, validOf, shiftOf, formatOf}
 use Rattle.scheme.specs.declared.PagingScheme.{PagingScheme}
+use Rattle.scheme.proofs.Levels.{modest}
 use Rattle.scheme.proofs.Widths.{valid, top-shift}
 use Rattle.scheme.specs.declared.Format.{Format}
 use Rattle.walker.specs.Descent.{place, entryAt, metAt, follow, seek, ended, topOk, descentIn, descentOf}
@@ -122,19 +123,23 @@ module _ (f : Format) (ram : List ℕ) (offset : ℕ) (ws : List ℕ) (root : �
       go true = shift-low f ram offset va ws 0 root
       go false = omega arith
 
-  module _ (va va′ : ℕ) (fits : shiftOf offset ws 0 ≤ f .top) where
-    top-same : va′ / 2 ^ descentIn f ram va offset ws root .shift ≡ va / 2 ^ descentIn f ram va offset ws root .shift → topOk f va′ ≡ topOk f va
-    unfolding topOk
-    top-same e = rw (alike va′ va _ (f .top) (le-trans (whole-high va) fits) e)
-
-    pub whole-same : va′ / 2 ^ descentIn f ram va offset ws root .shift ≡ va / 2 ^ descentIn f ram va offset ws root .shift
+  module _ (va va′ : ℕ) where
+    pub whole-alike : topOk f va′ ≡ topOk f va
+        → va′ / 2 ^ descentIn f ram va offset ws root .shift ≡ va / 2 ^ descentIn f ram va offset ws root .shift
         → descentIn f ram va′ offset ws root ≡ descentIn f ram va offset ws root
     unfolding descentIn
-    whole-same e = ap (by va′) (top-same e) ∙ go (topOk f va) e
+    whole-alike top e = ap (by va′) top ∙ go (topOk f va) e
       where
         go : (b : Bool) → va′ / 2 ^ by va b .shift ≡ va / 2 ^ by va b .shift → by va′ b ≡ by va b
         go true h = seek-same f ram offset va va′ ws 0 root h
         go false h = refl
+
+    -- where no shift is above the top, they have the same top
+    pub whole-same : shiftOf offset ws 0 ≤ f .top
+        → va′ / 2 ^ descentIn f ram va offset ws root .shift ≡ va / 2 ^ descentIn f ram va offset ws root .shift
+        → descentIn f ram va′ offset ws root ≡ descentIn f ram va offset ws root
+    unfolding topOk
+    whole-same fits e = whole-alike (rw (alike va′ va _ (f .top) (le-trans (whole-high va) fits) e)) e
 
 -- ---- the same of a scheme's descent
 
@@ -147,3 +152,9 @@ module _ (ram : List ℕ) (root : ℕ) (s : PagingScheme) (va : ℕ) where
     pub descent-high : descentOf ram root s va .shift < 32
     unfolding descentOf
     descent-high = lt-of-le-of-lt (whole-high (formatOf s) ram (s .«offset_bits») (widthsOf s) root va) (top-shift s (valid s ok))
+
+    pub descent-same : (va′ : ℕ) → va′ / 2 ^ descentOf ram root s va .shift ≡ va / 2 ^ descentOf ram root s va .shift
+        → descentOf ram root s va′ ≡ descentOf ram root s va
+    unfolding descentOf
+    descent-same va′ e =
+        whole-same (formatOf s) ram (s .«offset_bits») (widthsOf s) root va va′ (omega (arith, top-shift s (valid s ok), modest s .tall)) e

@@ -5,4 +5,5 @@ pub mod Verdicts
 pub mod Blocks
 pub mod Asked
 pub mod Claims
-pub mod Sv39
+pub mod Tops
+pub mod Formats

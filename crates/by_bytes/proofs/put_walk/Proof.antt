@@ -1,6 +1,4 @@
--- `by_bytes::put_walk` meets its contract: three words, one after another.
-use native.Mathlib.Omega.{arith}
-use Rattle.writer.proofs.Puts.{then, within}
+-- `by_bytes::put_walk` meets its contract: by the walk's cause and address.
 use Rattle.by_bytes.specs.Numbers.{walkTold}
 use borrow.Author.Needs.{needs}
 use Rattle.by_bytes.proofs.put_walk.Statement.{statement}
@@ -12,20 +10,8 @@ told-cause-requires c κs = search needs
 told-place-requires : tie.Need-told-place-requires
 told-place-requires c κs = search needs
 
-cast-put-le : tie.Need-cast-put-le
-cast-put-le c = search needs
-
-put-le-requires : tie.Need-put-le-requires
-put-le-requires c κs = search needs
-
-cast-put-le-2 : tie.Need-cast-put-le-2
-cast-put-le-2 c = search needs
-
-put-le-requires-2 : tie.Need-put-le-requires-2
-put-le-requires-2 c κs = search needs
-
-put-le-requires-3 : tie.Need-put-le-requires-3
-put-le-requires-3 c κs = search needs
+put-told-requires : tie.Need-put-told-requires
+put-told-requires c κs = search needs
 
 same-length : tie.Need-same-length
 same-length c = search needs
@@ -33,23 +19,11 @@ same-length c = search needs
 returns : tie.Need-returns
 unfolding walkTold
 returns c =
-    let three = c .before .before in
-    let two = three .before .before .before .before .before in
-    let one = two .before .before .before .before in
-    let place = one .before .before in
-    within (omega arith)
-    (then (rw (place .before .told-cause .ensures) at (one .put-le .ensures)) (then (rw (place .told-place .ensures) at (two .put-le2 .ensures)) (three .put-le3 .ensures)))
+    let p = c .before .before in
+    let place = p .before .before in
+    rw (place .before .told-cause .ensures, place .told-place .ensures) at (p .put-told .ensures)
 
 pub put-walk-spec : {M : Type 1} → statement M
 put-walk-spec =
     tie.close
-    (tie.spec
-    told-cause-requires
-    told-place-requires
-    cast-put-le
-    put-le-requires
-    put-le-requires-2
-    cast-put-le-2
-    put-le-requires-3
-    same-length
-    returns)
+    (tie.spec told-cause-requires told-place-requires put-told-requires same-length returns)

@@ -18,20 +18,14 @@ root-pa-requires c κs = search needs
 enum-known-told : tie.Need-enum-known-told
 enum-known-told c = search needs
 
-cast-result : tie.Need-cast-result
-cast-result c = search needs
-
 enum-known-told-2 : tie.Need-enum-known-told-2
 enum-known-told-2 c = search needs
 
 number-requires : tie.Need-number-requires
 number-requires c κs = search needs
 
-cast-result-2 : tie.Need-cast-result-2
-cast-result-2 c = search needs
-
-add-result : tie.Need-add-result
-add-result c = search needs
+cast-result : tie.Need-cast-result
+cast-result c = search needs
 
 returns-2 : tie.Need-returns-2
 unfolding askedNumber
@@ -57,10 +51,8 @@ root-pa-spec =
     scheme-at-requires
     root-pa-requires
     enum-known-told
-    cast-result
     enum-known-told-2
     number-requires
-    cast-result-2
-    add-result
+    cast-result
     returns-2
     returns-3)

@@ -12,8 +12,8 @@ use borrow.Author.Needs.{needs}
 use Rattle.installer.proofs.put_word.Statement.{statement}
 use Rattle.installer.proofs.put_word.Tie as tie
 
-store-requires : tie.Need-store-requires
-store-requires c κs = search needs
+store32-requires : tie.Need-store32-requires
+store32-requires c κs = search needs
 
 same-length : tie.Need-same-length
 same-length c = search needs
@@ -25,7 +25,7 @@ in-reach ram at h t = rw (le-leb _ _ h, le-leb _ _ t)
 returns : tie.Need-returns
 returns c =
     let a = c .before .before .before .before .before in
-    c .before .before .store .ensures .1 ∙ sym (stored _ _ _ _ _ (in-reach _ _ (a .pre .0) (omega (arith, a .pre))))
+    c .before .before .store32 .ensures .1 ∙ sym (stored _ _ _ _ _ (in-reach _ _ (a .pre .0) (omega (arith, a .pre))))
 
 pub put-word-spec : {M : Type 1} → statement M
-put-word-spec = tie.close (tie.spec store-requires same-length returns)
+put-word-spec = tie.close (tie.spec store32-requires same-length returns)

@@ -37,7 +37,7 @@ small c =
     let n = start (c .before .before) .args .n in
     let ram = start (c .before .before) .args .ram .now in
     let at = start (c .before .before) .args .a + c .before .loop .k in
-    let e : n - c .before .loop .k ≤ 7 = omega (arith, start (c .before .before) .pre .0) in
+    let e : n - c .before .loop .k ≤ 7 = omega (arith, start (c .before .before) .pre) in
     let read = word-lt (n - c .before .loop .k) ram at (λ i. omega (arith, c .before .before .before .before .shared-slice-known .given i)) in
     omega (arith, c .before .loop .inv .1, read, pow-le-pow-right {n = 256} (lit< tt) e)
 

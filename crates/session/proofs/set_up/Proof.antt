@@ -12,7 +12,6 @@ use Rattle.entry.specs.declared.TlbConfig.{TlbConfig}
 use Rattle.state.specs.State.{stateNew}
 use Rattle.mmu.specs.Calls.{roomFor, newOf}
 use Rattle.mmu.specs.declared.Kept.{Kept}
-use Rattle.mmu.proofs.Refusing.{default-room}
 use Rattle.session.specs.Session.{startOf, settingsSaid}
 use borrow.Author.Needs.{needs}
 use Rattle.session.proofs.set_up.Statement.{statement}
@@ -27,26 +26,21 @@ refused-new config why e = go (roomFor config) refl
     go true t = let same : Said.Granted ≡ Said.Refused why = rw t at e in let z : _≡_ {A = ℕ} 0 1 = cc in absurd (omega arith)
     go false t = rw t
 
-is-bought-requires : tie.Need-is-bought-requires
-is-bought-requires c κs = search needs
+is-valid-requires : tie.Need-is-valid-requires
+is-valid-requires c κs = search needs
 
-default-config-requires : tie.Need-default-config-requires
-default-config-requires c κs = search needs
+refused-requires : tie.Need-refused-requires
+refused-requires c κs = search needs
+
+returns : tie.Need-returns
+unfolding startOf settingsSaid onGrant
+returns c =
+    let i = c .before in
+    let v = sym (i .before .is-valid .ensures) ∙ not-true _ (i .if1 .taken) in
+    (rw (v, c .refused .ensures), rw (v, c .refused .ensures))
 
 new-requires : tie.Need-new-requires
 new-requires c κs = search needs
-
-returns : tie.Need-returns
-unfolding startOf settingsSaid onGrant newOf
-returns c =
-    let n = c .before in
-    let d = n .before in
-    let i = d .before in
-    let v = sym (i .before .is-bought .ensures) ∙ not-true _ (i .if1 .taken) in
-    (rw v, rw (v, n .new .ensures, d .default-config .ensures, default-room))
-
-new-requires-2 : tie.Need-new-requires-2
-new-requires-2 c κs = search needs
 
 enum-known-said : tie.Need-enum-known-said
 enum-known-said c = search needs
@@ -62,9 +56,9 @@ unfolding startOf settingsSaid onGrant
 returns-2 c =
     let n = c .before .before .before .before in
     let i = n .before in
-    let v = sym (i .before .is-bought .ensures) ∙ not-false _ (i .if1 .left) in
-    let e = sym (ap (λ (k : Kept). k .said) (n .new2 .ensures)) ∙ c .before .said .given .1 in
-    (rw (v, e), rw (v, e, n .new2 .ensures) (refused-new _ _ e))
+    let v = sym (i .before .is-valid .ensures) ∙ not-false _ (i .if1 .left) in
+    let e = sym (ap (λ (k : Kept). k .said) (n .new .ensures)) ∙ c .before .said .given .1 in
+    (rw (v, e), rw (v, e, n .new .ensures) (refused-new _ _ e))
 
 returns-3 : tie.Need-returns-3
 unfolding startOf settingsSaid onGrant
@@ -72,19 +66,18 @@ returns-3 c =
     let t = c .before in
     let n = t .before .before .before in
     let i = n .before in
-    let v = sym (i .before .is-bought .ensures) ∙ not-false _ (i .if1 .left) in
-    let e = sym (ap (λ (k : Kept). k .said) (n .new2 .ensures)) ∙ t .enum-told .given .1 in
-    (rw (v, e), rw (v, e, c .take-over .ensures, n .new2 .ensures))
+    let v = sym (i .before .is-valid .ensures) ∙ not-false _ (i .if1 .left) in
+    let e = sym (ap (λ (k : Kept). k .said) (n .new .ensures)) ∙ t .enum-told .given .1 in
+    (rw (v, e), rw (v, e, c .take-over .ensures, n .new .ensures))
 
 pub set-up-spec : {M : Type 1} → statement M
 set-up-spec =
     tie.close
     (tie.spec
-    is-bought-requires
-    default-config-requires
-    new-requires
+    is-valid-requires
+    refused-requires
     returns
-    new-requires-2
+    new-requires
     enum-known-said
     enum-told
     take-over-requires

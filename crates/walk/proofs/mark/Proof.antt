@@ -1,5 +1,4 @@
 -- `mark`: a word that the marks change is stored, which a readable place takes; else RAM stays.
-use native.Mathlib.Omega.{arith}
 use mathlib.Core.Path.{_≡_, sym, ap, _∙_}
 use Rattle.memory.proofs.Reading.{stored}
 use Rattle.walk.specs.Answer.{markOf}
@@ -19,7 +18,7 @@ marked-requires : tie.Need-marked-requires
 marked-requires c κs = search needs
 
 store-requires : tie.Need-store-requires
-store-requires c κs = omega (arith, c .before .before .before .before .before .pre .0 .narrow)
+store-requires c κs = search needs
 
 same-length : tie.Need-same-length
 same-length c = search needs
@@ -29,7 +28,7 @@ returns c =
     let m = c .before .before .before .before .before in
     let s = m .before .before .before in
     c .before .before .store .ensures .1
-    ∙ sym (stored _ _ _ _ _ (s .pre .1))
+    ∙ sym (stored _ _ _ _ _ (s .pre))
     ∙ mark-put _ _ _ _ _ _ (is-mark m) (c .before .before .before .before .if1 .taken)
 
 returns-2 : tie.Need-returns-2

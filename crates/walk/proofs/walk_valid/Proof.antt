@@ -52,10 +52,8 @@ enum-known-verdict-2 c = search needs
 mark-requires : tie.Need-mark-requires
 mark-requires c κs =
     let v = c .before .before in
-    let m = at-format v in (
-      is-modest m,
-      subst⁻¹ (λ (f : Format). readable (f .space) (f .bytes) (m .before .before .args .ram .now) (v .verdict2 .given .0 .0 .at) ≡ true) (m .format .ensures) (leaf-in v),
-    )
+    let m = at-format v in
+    subst⁻¹ (λ (f : Format). readable (f .space) (f .bytes) (m .before .before .args .ram .now) (v .verdict2 .given .0 .0 .at) ≡ true) (m .format .ensures) (leaf-in v)
 
 page-requires : tie.Need-page-requires
 page-requires c κs = is-modest (at-format (c .before .before .before .before .before))

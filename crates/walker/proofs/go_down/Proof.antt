@@ -76,7 +76,7 @@ turn c =
 loop-holds : tie.Need-loop-holds Inv-loop μ-loop
 loop-holds c =
     let v = known (c .before) in
-    (search needs, omega (arith, c .before .pre .2, v .all, v .bits-high), c .before .pre .2, v .ok, refl)
+    (search needs, omega (arith, c .before .pre .2, v .most), c .before .pre .2, v .ok, refl)
 
 cast-i : tie.Need-cast-i Inv-loop μ-loop
 cast-i c = search needs

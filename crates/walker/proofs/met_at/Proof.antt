@@ -1,5 +1,4 @@
 use mathlib.Core.Path.{sym, _∙_, ap}
-use native.Mathlib.Omega.{arith}
 use Rattle.walker.specs.Descent.{entryIs}
 use Rattle.memory.proofs.Reading.{is-word, no-word}
 use Rattle.walker.proofs.Cases.{said, unreadable, is-entry}
@@ -8,7 +7,7 @@ use Rattle.walker.proofs.met_at.Statement.{statement}
 use Rattle.walker.proofs.met_at.Tie as tie
 
 load-requires : tie.Need-load-requires
-load-requires c κs = (c .before .pre .0 .short, omega (arith, c .before .pre .0 .narrow))
+load-requires c κs = c .before .pre .0 .short
 
 enum-known-raw : tie.Need-enum-known-raw
 enum-known-raw c = search needs

@@ -5,9 +5,6 @@ use borrow.Author.Needs.{needs}
 use Rattle.field_cases.proofs.words.within.Statement.{statement}
 use Rattle.field_cases.proofs.words.within.Tie as tie
 
-cast-n : tie.Need-cast-n
-cast-n c = search needs
-
 returns : tie.Need-returns
 returns c = search needs
 
@@ -16,6 +13,12 @@ slice-relend-prefix-store c = search needs
 
 slice-aggregate-store : tie.Need-slice-aggregate-store
 slice-aggregate-store c = sym (length-take-le _ _ (slice-relend-prefix-store (c .before)))
+
+low-requires : tie.Need-low-requires
+low-requires c κs = search needs
+
+low-requires-2 : tie.Need-low-requires-2
+low-requires-2 c κs = search needs
 
 store-requires : tie.Need-store-requires
 store-requires c κs = search needs
@@ -32,6 +35,9 @@ slice-reshare-prefix-load c = search needs
 slice-aggregate-load : tie.Need-slice-aggregate-load
 slice-aggregate-load c = sym (length-take-le _ _ (slice-reshare-prefix-load (c .before)))
 
+low-requires-3 : tie.Need-low-requires-3
+low-requires-3 c κs = search needs
+
 load-requires : tie.Need-load-requires
 load-requires c κs = search needs
 
@@ -45,15 +51,17 @@ pub within-spec : {M : Type 1} → statement M
 within-spec =
     tie.close
     (tie.spec
-    cast-n
     returns
     slice-relend-prefix-store
     slice-aggregate-store
+    low-requires
+    low-requires-2
     store-requires
     same-length
     returns-2
     slice-reshare-prefix-load
     slice-aggregate-load
+    low-requires-3
     load-requires
     same-length-2
     returns-3)

@@ -35,11 +35,14 @@ long c =
     let four : length (c .args .t1 .«level_bits») ≡ 4 = search needs in
     omega (arith, good c .four)
 
-address-bits-requires : tie.Need-address-bits-requires Inv-loop μ-loop
-address-bits-requires c κs = search needs
+total-bits-requires : tie.Need-total-bits-requires Inv-loop μ-loop
+total-bits-requires c κs = search needs
+
+cast-rest : tie.Need-cast-rest Inv-loop μ-loop
+cast-rest c = record { fits = omega (arith, good (c .before) .most, c .total-bits .ensures) }
 
 sub-rest : tie.Need-sub-rest Inv-loop μ-loop
-sub-rest c = omega (arith, good (c .before) .offset-high, good (c .before) .bits-low, c .address-bits .ensures)
+sub-rest c = omega (arith, good (c .before) .offset-high, good (c .before) .least, c .total-bits .ensures)
 
 loop-holds : tie.Need-loop-holds Inv-loop μ-loop
 loop-holds c =
@@ -48,7 +51,7 @@ loop-holds c =
     let at : s .levels - 0 ≡ length (classes (widthsOf s)) = omega (arith, count) in (
       search needs,
       search needs,
-      omega (arith, good (c .before) .all, c .address-bits .ensures),
+      omega (arith, c .total-bits .ensures),
       ap (λ (k : ℕ). classes (widthsOf s) ++ drop k (0 ∷ 0 ∷ 0 ∷ 0 ∷ [])) at,
     )
 
@@ -112,7 +115,8 @@ classes-spec =
     Inv-loop
     μ-loop
     cast-n
-    address-bits-requires
+    total-bits-requires
+    cast-rest
     sub-rest
     loop-holds
     element-copy-out-w

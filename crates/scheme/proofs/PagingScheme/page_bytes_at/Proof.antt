@@ -2,6 +2,7 @@
 use Prim.Native.Nat.{ℕ, _^_}
 use mathlib.Core.Path.{_≡_, sym, ap, _∙_}
 use mathlib.Core.Bool.{true}
+use native.Mathlib.Omega.{arith}
 use lib.ListN.{length}
 use Rattle.bits.proofs.Masks.{one-shl}
 use Rattle.scheme.specs.Scheme.{knownLevel, pageBytesAt}
@@ -17,6 +18,9 @@ knows-requires c κs = search needs
 shift-below-requires : tie.Need-shift-below-requires
 shift-below-requires c κs = search needs
 
+cast-bytes : tie.Need-cast-bytes
+cast-bytes c = search needs
+
 -- the test passed, so the level is known
 known : (c : tie.Then1) → knownLevel (c .before .before .args .self) (c .before .before .args .level) ≡ true
 known c = sym (c .before .knows .ensures) ∙ c .if1 .taken
@@ -26,12 +30,12 @@ shl-bytes c =
     let a = c .before .before .before .args in
     let e = known (c .before) in
     let four : length (a .self .«level_bits») ≡ 4 = search needs in
-    rw (c .shift-below .ensures) (shift-high (a .self) four (known-valid _ _ e) (a .level) (known-below _ _ e))
+    omega (arith, c .shift-below .ensures, shift-high (a .self) four (known-valid _ _ e) (a .level) (known-below _ _ e))
 
 returns : tie.Need-returns
 unfolding pageBytesAt
 returns c =
-    let power = one-shl 32 (c .shift-below .result) (shl-bytes c) in
+    let power = one-shl 64 (c .shift-below .result) (shl-bytes c) in
     granted _ _ _ (known (c .before)) (power ∙ ap (λ (k : ℕ). 2 ^ k) (c .shift-below .ensures))
 
 returns-2 : tie.Need-returns-2
@@ -40,4 +44,4 @@ returns-2 c = refused _ _ (sym (c .before .knows .ensures) ∙ c .if1 .left)
 
 pub page-bytes-at-spec : {M : Type 1} → statement M
 page-bytes-at-spec =
-    tie.close (tie.spec knows-requires shift-below-requires shl-bytes returns returns-2)
+    tie.close (tie.spec knows-requires shift-below-requires cast-bytes shl-bytes returns returns-2)

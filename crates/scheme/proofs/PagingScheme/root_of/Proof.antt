@@ -1,16 +1,25 @@
--- `root_of`: the field, by whether the scheme is Sv39.
+-- `root_of`: the bits below the ASID, by the scheme's format.
+use Prim.Native.Nat.{_%_, _^_}
+use mathlib.Core.Path.{ap, _∙_}
+use Rattle.scheme.specs.Satp.{rootIn}
+use Rattle.scheme.specs.declared.Format.{Format}
 use borrow.Author.Needs.{needs}
 use Rattle.scheme.proofs.PagingScheme.root_of.Statement.{statement}
 use Rattle.scheme.proofs.PagingScheme.root_of.Tie as tie
 
-is-sv39-requires : tie.Need-is-sv39-requires
-is-sv39-requires c κs = search needs
+format-requires : tie.Need-format-requires
+format-requires c κs = search needs
 
-ppn-requires : tie.Need-ppn-requires
-ppn-requires c κs = search needs
+cast-low-bits : tie.Need-cast-low-bits
+cast-low-bits c = search needs
+
+low-bits-requires : tie.Need-low-bits-requires
+low-bits-requires c κs = search needs
 
 returns : tie.Need-returns
-returns c = rw (c .ppn .ensures, c .before .is-sv39 .ensures)
+unfolding rootIn
+returns c =
+    c .low-bits .ensures .0 ∙ ap (λ (f : Format). c .before .before .before .args .satp .raw % 2 ^ f .«asid_at») (c .before .before .format .ensures)
 
 pub root-of-spec : {M : Type 1} → statement M
-root-of-spec = tie.close (tie.spec is-sv39-requires ppn-requires returns)
+root-of-spec = tie.close (tie.spec format-requires cast-low-bits low-bits-requires returns)

@@ -45,7 +45,7 @@ small c = subst⁻¹ (λ (f : Format). f .bytes ≤ 8) (c .before .format .ensur
 abbrev then : tie.After-struct-known → tie.Then1
 then c = c .before .before .before
 
-bytes : (c : tie.After-struct-known) → size c * 2 ^ getD (then c .before .before .args .t1 .«level_bits») 0 0 % 2 ^ 32
+bytes : (c : tie.After-struct-known) → size c * 2 ^ getD (then c .before .before .args .t1 .«level_bits») 0 0 % 2 ^ 64
     ≡ size c * 2 ^ getD (widthsOf (then c .before .before .args .t1)) 0 0
 bytes c = let v = valid _ (is-valid (then c)) in table-bytes _ (long (then c)) v 0 (v .some) (size c) (small c)
 

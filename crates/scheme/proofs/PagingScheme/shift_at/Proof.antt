@@ -17,6 +17,9 @@ shift-below-requires c κs = search needs
 known : (c : tie.Then1) → knownLevel (c .before .before .args .self) (c .before .before .args .level) ≡ true
 known c = sym (c .before .knows .ensures) ∙ c .if1 .taken
 
+cast-shift : tie.Need-cast-shift
+cast-shift c = search needs
+
 returns : tie.Need-returns
 unfolding shiftAt
 returns c = granted _ _ _ (known (c .before)) (c .shift-below .ensures)
@@ -26,4 +29,4 @@ unfolding shiftAt
 returns-2 c = refused _ _ (sym (c .before .knows .ensures) ∙ c .if1 .left)
 
 pub shift-at-spec : {M : Type 1} → statement M
-shift-at-spec = tie.close (tie.spec knows-requires shift-below-requires returns returns-2)
+shift-at-spec = tie.close (tie.spec knows-requires shift-below-requires cast-shift returns returns-2)
