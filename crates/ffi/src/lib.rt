@@ -10,7 +10,7 @@ ghost use Rattle.scheme.specs.Scheme.{sv32, sv39};
 ghost use Rattle.scheme.specs.Map.{deltaOf};
 ghost use Rattle.scheme.specs.declared.map.MapKind.the-variants.{Offset};
 ghost use Rattle.run.specs.Run.{tooShort, outputOf, endRamOf, ranOf, ranBuffer};
-ghost use Rattle.imaged.specs.Imaged.{saidNumber, keptIn, schemedOf, configuredOf, flushedOf, flushedAtOf};
+ghost use Rattle.imaged.specs.Imaged.{saidNumber, keptIn, madeNumber, madeImage, schemedOf, configuredOf, flushedOf, flushedAtOf};
 ghost use Rattle.imaged.specs.Accesses.{translatedNumber, translatedImage, translatedRam, translatedTold};
 ghost use Rattle.imaged_run.specs.Records.{openedSaid, recordsText, recordsRam, recordsImage, recordsShort, recordsRan};
 ghost use Rattle.by_bytes.specs.Numbers.{installedSaid, installedRam, walkNumber, toldAfter, ramAfter, rootNumber};
@@ -89,6 +89,15 @@ pub extern "C" fn muntesulca_events(image: &mut [u8], records: &[u8], ram: &mut 
         × (now (ram .exit) ≡ recordsRam (now (image .entry)) (now (records .entry)) (now (ram .entry))) ⌝ }
 {
     imaged_run::run_events(image, records, ram)
+}
+
+// The image of a new state at the start of a buffer.
+#[no_mangle]
+pub extern "C" fn muntesulca_new(config: &[u8], image: &mut [u8]) -> u32
+    ensures { λ r. ⌜ (r ≡ madeNumber (now (config .entry)) (now (image .entry)))
+        × (now (image .exit) ≡ madeImage (now (config .entry)) (now (image .entry))) ⌝ }
+{
+    imaged::new(config, image)
 }
 
 #[no_mangle]

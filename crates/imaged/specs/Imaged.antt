@@ -10,11 +10,11 @@ use Rattle.scheme.specs.declared.refusal.Refusal.the-variants.{BadLayout}
 use Rattle.scheme.specs.declared.refusal.Said.{Said}
 use Rattle.scheme.specs.declared.refusal.Said.the-variants.{Granted, Refused}
 use Rattle.state.specs.declared.Mmu.{Mmu}
-use Rattle.mmu.specs.Calls.{refusedWith, setSchemeOf, reconfigureOf, flushOf, flushVaddrOf}
+use Rattle.mmu.specs.Calls.{refusedWith, newOf, setSchemeOf, reconfigureOf, flushOf, flushVaddrOf}
 use Rattle.mmu.specs.declared.Kept.{Kept}
 use Rattle.layout.specs.Layout.{byteAt}
 use Rattle.bundle.specs.Parts.{schemeAt, configAt}
-use Rattle.image.specs.Image.{putState}
+use Rattle.image.specs.Image.{roomIn, putState}
 use Rattle.image_read.specs.Reading.{stateRead}
 
 -- the refusal's number, or 0
@@ -30,7 +30,7 @@ laidOut good next = cond good next (Refused BadLayout)
 unfoldable pub keptIn : Kept → List ℕ → List ℕ
 keptIn k image = onGrant (k .said) (putState (k .mmu) image) image
 
--- ---- a scheme, a configuration, a flush
+-- ---- a new state, a scheme, a configuration, a flush
 
 -- a call on the image's state, if the image and the call's own bytes are laid out
 unfoldable pub calledOn : Bool → List ℕ → (Mmu → Kept) → Kept
@@ -46,6 +46,13 @@ schemedOf image scheme = calledOn (eqb (length scheme) 6) image (λ m. setScheme
 -- six bytes, "policy (0 Lru, .., 5 Random)" among them
 abbrev pub configGiven : List ℕ → Bool
 configGiven config = eqb (length config) 6 && leb (byteAt config 3) 5
+
+-- `new` into a buffer: 255 where it has no room for an image, then 8, then 2. A refusal leaves it as it was
+unfoldable pub madeNumber : List ℕ → List ℕ → ℕ
+madeNumber config image = cond (roomIn image) (saidNumber (laidOut (configGiven config) (newOf (configAt config 0) .said))) 255
+
+unfoldable pub madeImage : List ℕ → List ℕ → List ℕ
+madeImage config image = cond (roomIn image && configGiven config) (keptIn (newOf (configAt config 0)) image) image
 
 abbrev pub configuredOf : List ℕ → List ℕ → Kept
 configuredOf image config = calledOn (configGiven config) image (λ m. reconfigureOf m (configAt config 0))

@@ -1,9 +1,9 @@
-// Calls on a state that is held as its image, as a host in another language keeps it: a scheme, a configuration, a flush, one access.
+// Calls on a state that is held as its image, as a host in another language keeps it: a new one, a scheme, a configuration, a flush, one access.
 use mmu::Kept;
 use scheme::Refusal;
 use scheme::Said;
 ghost use mathlib.Core.Path.{_≡_};
-ghost use Rattle.imaged.specs.Imaged.{saidNumber, laidOut, keptIn, schemedOf, configGiven, configuredOf, flushedOf, flushedAtOf};
+ghost use Rattle.imaged.specs.Imaged.{saidNumber, laidOut, keptIn, schemedOf, configGiven, configuredOf, madeNumber, madeImage, flushedOf, flushedAtOf};
 
 mod accesses;
 
@@ -76,6 +76,22 @@ fn config_given(config: &[u8]) -> bool
         return false;
     }
     config[3] <= 5
+}
+
+// The image of a new state with a configuration of six bytes, into a buffer.
+pub fn new(config: &[u8], image: &mut [u8]) -> u32
+    ensures { λ r. ⌜ (r ≡ madeNumber (now (config .entry)) (now (image .entry)))
+        × (now (image .exit) ≡ madeImage (now (config .entry)) (now (image .entry))) ⌝ }
+{
+    if image.len() < 3416 {
+        return 255;
+    }
+    if !config_given(config) {
+        return 8;
+    }
+    let c = bundle::config_at(config, 0);
+    let k = mmu::new(c);
+    keep(k, image)
 }
 
 // `mmu::reconfigure` on an image; the configuration is six bytes.

@@ -44,6 +44,7 @@ fn perform(m: Mmu, ram: &mut [u8], s: Step) -> Mmu {
     let op = s.op;
     match op {
         b'#' => (),
+        b'z' => tell::clear(ram),
         b'w' => tell::put(ram, s.a, s.b, s.wide),
         b'i' => mmu_tell::slot(m, s.a),
         b'c' => mmu_tell::tallies(m),

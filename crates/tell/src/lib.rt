@@ -19,6 +19,15 @@ pub fn put(ram: &mut [u8], at: u64, word: u64, wide: bool) {
     }
 }
 
+// Every byte 0.
+pub fn clear(ram: &mut [u8]) {
+    let mut i: usize = 0;
+    while i < ram.len() {
+        ram[i] = 0;
+        i += 1;
+    }
+}
+
 fn byte(n: u64) -> u8 {
     (n % 256) as u8
 }

@@ -136,6 +136,7 @@ image-read = record {
 
 pub imaged : Imaged
 imaged = record {
+  new = λ M 𝓤 H A mem run. (refl, λ κs a. (free 𝓤, fixed 𝓤 _ _ _ (λ r left p. (p .0, ap (λ image. (tt, (image, tt))) (p .1)))));
   «said_number» = λ M 𝓤 H A mem run. (refl, λ κs a. (free 𝓤, fixed 𝓤 _ _ _ (λ r left p. (p, refl))));
   flush = λ M 𝓤 H A mem run. (refl, λ κs a. (free 𝓤, fixed 𝓤 _ _ _ (λ r left p. (p .0, ap (λ image. (image, tt)) (p .1)))));
   «flush_vaddr» = λ M 𝓤 H A mem run. (refl, λ κs a. (free 𝓤, fixed 𝓤 _ _ _ (λ r left p. (p .0, ap (λ image. (image, (tt, tt))) (p .1)))));
@@ -156,6 +157,7 @@ ffi = record {
   «muntesulca_run_state» = λ M 𝓤 H A mem run. (refl, λ κs a. (free 𝓤, fixed 𝓤 _ _ _ (λ r left p. (p .0, ap₂ (λ ram rest. (tt, (ram, rest))) (p .2) (ap₂ (λ out image. (out, (image, tt))) (p .1) (p .3))))));
   «muntesulca_records» = λ M 𝓤 H A mem run. (refl, λ κs a. (free 𝓤, fixed 𝓤 _ _ _ (λ r left p. (p .0, ap₂ (λ image rest. (image, (tt, rest))) (p .3) (ap₂ (λ ram out. (ram, (out, tt))) (p .2) (p .1))))));
   «muntesulca_events» = λ M 𝓤 H A mem run. (refl, λ κs a. (free 𝓤, fixed 𝓤 _ _ _ (λ r left p. (p .0, ap₂ (λ image ram. (image, (tt, (ram, tt)))) (p .1) (p .2)))));
+  «muntesulca_new» = λ M 𝓤 H A mem run. (refl, λ κs a. (free 𝓤, fixed 𝓤 _ _ _ (λ r left p. (p .0, ap (λ image. (tt, (image, tt))) (p .1)))));
   «muntesulca_set_scheme» = λ M 𝓤 H A mem run. (refl, λ κs a. (free 𝓤, fixed 𝓤 _ _ _ (λ r left p. (p .0, ap (λ image. (image, (tt, tt))) (p .1)))));
   «muntesulca_reconfigure» = λ M 𝓤 H A mem run. (refl, λ κs a. (free 𝓤, fixed 𝓤 _ _ _ (λ r left p. (p .0, ap (λ image. (image, (tt, tt))) (p .1)))));
   «muntesulca_flush» = λ M 𝓤 H A mem run. (refl, λ κs a. (free 𝓤, fixed 𝓤 _ _ _ (λ r left p. (p .0, ap (λ image. (image, tt)) (p .1)))));

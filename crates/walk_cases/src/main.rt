@@ -32,6 +32,7 @@ fn perform(t: Setting, ram: &mut [u8], s: Step) -> Setting {
     let mut u = t;
     match op {
         b'#' => (),
+        b'z' => tell::clear(ram),
         b'w' => tell::put(ram, s.a, s.b, s.wide),
         b'a' => walked(t, ram, s),
         b'p' => u.scheme = tell::scheme_of(s.a, s.b, s.c),

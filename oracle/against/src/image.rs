@@ -1,27 +1,31 @@
-//! A state as its image: 2,388 bytes, little-endian, laid out as examples/muntesulca.h says. Which images are whole and
+//! A state as its image: 3,416 bytes, little-endian, laid out as examples/muntesulca.h says. Which images are whole and
 //! which are fit is decided here by document 01, in code of its own.
 
 use oracle::bundle::{config_at, u16_at, u32_at};
 use oracle::rules::{Scheme, tlb_entries};
 use oracle::{Entry, Oracle, State};
 
-pub const BYTES: usize = 2388;
+pub const BYTES: usize = 3416;
 pub const SWITCHES: usize = 6;
 pub const SCHEME: usize = 8;
 pub const SATP: usize = 16;
-pub const COUNTER: usize = 20;
-pub const COUNT: usize = 24;
-pub const SETS: usize = 32;
-pub const CLASS_COUNT: usize = 40;
-pub const TALLIES: usize = 48;
-pub const CLASSES: usize = 80;
-pub const HANDS: usize = 84;
-pub const ENTRIES: usize = 212;
-/// Bytes of one entry, and its class, its flags and its reference bit among them.
-pub const ENTRY: usize = 17;
-pub const CLASS: usize = 14;
-pub const FLAGS: usize = 15;
-pub const REFERENCE: usize = 16;
+pub const COUNTER: usize = 24;
+pub const COUNT: usize = 28;
+pub const SETS: usize = 36;
+pub const CLASS_COUNT: usize = 44;
+pub const TALLIES: usize = 52;
+pub const CLASSES: usize = 84;
+pub const HANDS: usize = 88;
+pub const ENTRIES: usize = 216;
+/// Bytes of one entry, and its PPN, its age, its ASID, its class, its flags and its reference bit among them. VPN and
+/// PPN have eight bytes; the bought Rust has numbers for their low halves, and the high ones are 0 here.
+pub const ENTRY: usize = 25;
+pub const PPN: usize = 8;
+pub const AGE: usize = 16;
+pub const ASID: usize = 20;
+pub const CLASS: usize = 22;
+pub const FLAGS: usize = 23;
+pub const REFERENCE: usize = 24;
 
 /// Where an entry's bytes begin.
 pub fn entry(i: usize) -> usize {
@@ -96,14 +100,14 @@ fn entry_of(b: &[u8]) -> Entry {
     Entry {
         valid: flag(0),
         vpn: u32_at(b, 0),
-        ppn: u32_at(b, 4),
-        asid: u16_at(b, 12),
+        ppn: u32_at(b, PPN),
+        asid: u16_at(b, ASID),
         perms: [flag(1), flag(2), flag(3), flag(4)],
         global: flag(5),
         accessed: flag(6),
         dirty: flag(7),
         class: b[CLASS],
-        age: u32_at(b, 8),
+        age: u32_at(b, AGE),
         ref_bit: b[REFERENCE] == 1,
     }
 }
@@ -112,9 +116,9 @@ fn put_entry(b: &mut [u8], e: &Entry) {
     let [r, w, x, u] = e.perms;
     let flags = [e.valid, r, w, x, u, e.global, e.accessed, e.dirty];
     put(b, 0, &e.vpn.to_le_bytes());
-    put(b, 4, &e.ppn.to_le_bytes());
-    put(b, 8, &e.age.to_le_bytes());
-    put(b, 12, &e.asid.to_le_bytes());
+    put(b, PPN, &e.ppn.to_le_bytes());
+    put(b, AGE, &e.age.to_le_bytes());
+    put(b, ASID, &e.asid.to_le_bytes());
     b[CLASS] = e.class;
     b[FLAGS] = (0..8).map(|i| (flags[i] as u8) << i).sum();
     b[REFERENCE] = e.ref_bit as u8;
@@ -174,18 +178,18 @@ pub fn field(at: usize) -> String {
         (14, "the TLB's offset"),
         (15, "the second zero"),
         (16, "satp"),
-        (20, "age counter"),
-        (24, "count"),
-        (32, "sets"),
-        (40, "count of classes"),
-        (48, "hits"),
-        (56, "misses"),
-        (64, "evictions"),
-        (72, "page faults"),
-        (80, "classes"),
+        (24, "age counter"),
+        (28, "count"),
+        (36, "sets"),
+        (44, "count of classes"),
+        (52, "hits"),
+        (60, "misses"),
+        (68, "evictions"),
+        (76, "page faults"),
+        (84, "classes"),
     ];
     if at >= ENTRIES {
-        let parts = [(0, "vpn"), (4, "ppn"), (8, "age"), (12, "asid"), (14, "class"), (15, "flags"), (16, "reference bit")];
+        let parts = [(0, "vpn"), (8, "ppn"), (16, "age"), (20, "asid"), (22, "class"), (23, "flags"), (24, "reference bit")];
         let (i, rest) = ((at - ENTRIES) / ENTRY, (at - ENTRIES) % ENTRY);
         return format!("entry {i}: {}", parts.iter().rfind(|p| p.0 <= rest).unwrap().1);
     }

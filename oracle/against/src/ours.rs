@@ -30,16 +30,31 @@ unsafe extern "C" {
     fn muntesulca_walk(
         scheme: *const u8,
         n: usize,
-        root_ppn: u32,
-        record: *const u8,
-        l: usize,
+        root_ppn: u64,
+        vaddr: u64,
+        kind: u8,
+        mode: u8,
         ram: *mut u8,
         m: usize,
         told: *mut u8,
         k: usize,
     ) -> u32;
-    fn muntesulca_root_pa(scheme: *const u8, n: usize, ram_size: u32) -> u64;
+    fn muntesulca_flush(image: *mut u8, k: usize) -> u32;
+    fn muntesulca_flush_vaddr(image: *mut u8, k: usize, vaddr: u64) -> u32;
+    fn muntesulca_translate(
+        image: *mut u8,
+        k: usize,
+        vaddr: u64,
+        kind: u8,
+        mode: u8,
+        ram: *mut u8,
+        m: usize,
+        told: *mut u8,
+        l: usize,
+    ) -> u32;
+    fn muntesulca_root_pa(scheme: *const u8, n: usize, ram_size: u64) -> u64;
     fn muntesulca_make_satp(root: u32, asid: u16) -> u32;
+    fn muntesulca_make_satp39(root: u64, asid: u16) -> u64;
     fn muntesulca_delta_bytes(mib: i32) -> u32;
 }
 
@@ -104,14 +119,32 @@ pub fn install(scheme: &[u8], map: &[u8], ram: &mut [u8]) -> u32 {
     unsafe { muntesulca_install(s, n, map.as_ptr(), map.len(), ram.as_mut_ptr(), ram.len()) }
 }
 
-pub fn walk(scheme: &[u8], root_ppn: u32, record: &[u8], ram: &mut [u8], told: &mut [u8]) -> u32 {
+/// Who asks: the address, and the bundle's numbers for kind and privilege.
+#[derive(Clone, Copy)]
+pub struct Access(pub u64, pub u8, pub u8);
+
+pub fn flush(image: &mut [u8]) -> u32 {
+    unsafe { muntesulca_flush(image.as_mut_ptr(), image.len()) }
+}
+
+pub fn flush_vaddr(image: &mut [u8], vaddr: u64) -> u32 {
+    unsafe { muntesulca_flush_vaddr(image.as_mut_ptr(), image.len(), vaddr) }
+}
+
+pub fn translate(image: &mut [u8], q: Access, ram: &mut [u8], told: &mut [u8]) -> u32 {
+    let (i, k, t, l) = (image.as_mut_ptr(), image.len(), told.as_mut_ptr(), told.len());
+    unsafe { muntesulca_translate(i, k, q.0, q.1, q.2, ram.as_mut_ptr(), ram.len(), t, l) }
+}
+
+pub fn walk(scheme: &[u8], root_ppn: u64, q: Access, ram: &mut [u8], told: &mut [u8]) -> u32 {
     unsafe {
         muntesulca_walk(
             scheme.as_ptr(),
             scheme.len(),
             root_ppn,
-            record.as_ptr(),
-            record.len(),
+            q.0,
+            q.1,
+            q.2,
             ram.as_mut_ptr(),
             ram.len(),
             told.as_mut_ptr(),
@@ -120,12 +153,16 @@ pub fn walk(scheme: &[u8], root_ppn: u32, record: &[u8], ram: &mut [u8], told: &
     }
 }
 
-pub fn root_pa(scheme: &[u8], ram_size: u32) -> u64 {
+pub fn root_pa(scheme: &[u8], ram_size: u64) -> u64 {
     unsafe { muntesulca_root_pa(scheme.as_ptr(), scheme.len(), ram_size) }
 }
 
 pub fn make_satp(root: u32, asid: u16) -> u32 {
     unsafe { muntesulca_make_satp(root, asid) }
+}
+
+pub fn make_satp39(root: u64, asid: u16) -> u64 {
+    unsafe { muntesulca_make_satp39(root, asid) }
 }
 
 pub fn delta_bytes(mib: i32) -> u32 {

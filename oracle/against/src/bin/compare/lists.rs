@@ -4,9 +4,10 @@
 use crate::differ::{self, Same};
 use crate::met;
 use crate::shrink::{Case, shorter, zeroed};
+use against::ours::Access;
 use against::{image, ours};
 use oracle::Oracle;
-use oracle::bundle::config_at;
+use oracle::bundle::{config_at, u32_at};
 use oracle::rules::{Scheme, records_ok, tlb_entries};
 
 const OLD: u8 = 0xA5;
@@ -110,7 +111,33 @@ impl Sides {
         differ::bytes("RAM", &ram, &self.ram)?;
         differ::images(&image, &self.image)?;
 
+        if refusal.is_none() {
+            self.one_by_one(list, &text, before.clone(), ram_before.clone()).map_err(|e| format!("one by one, {e}"))?;
+        }
         self.without_text(list, refusal, before, ram_before)
+    }
+
+    /// Each record by a call of its own, `translate`, `flush` or `flush_vaddr`: the same lines, state and RAM.
+    fn one_by_one(&self, list: &[u8], owed: &str, mut image: Vec<u8>, mut ram: Vec<u8>) -> Same {
+        for (record, owed) in list.chunks_exact(8).zip(owed.lines()) {
+            let va = u32_at(record, 0);
+            let (said, line) = match record[6] {
+                1 => (ours::flush(&mut image), "flush".to_string()),
+                2 => (ours::flush_vaddr(&mut image, va as u64), format!("flush {va:08x}")),
+                _ => {
+                    let mut told = [OLD; 21];
+                    let said = ours::translate(&mut image, Access(va as u64, record[4], record[5]), &mut ram, &mut told);
+                    differ::bytes("`told` past its end", &told[20..], &[OLD])?;
+                    let (cause, pa, stall) = (u32_at(&told, 0), image::u64_at(&told, 4), u32_at(&told, 16));
+                    let end = if cause == 0 { format!("ok {pa:08x} {stall}") } else { format!("fault {cause}") };
+                    (said, format!("{va:08x} {end}"))
+                }
+            };
+            differ::numbers("answer", said as u64, 0)?;
+            differ::texts(line.as_bytes(), owed)?;
+        }
+        differ::bytes("RAM", &ram, &self.ram)?;
+        differ::images(&image, &self.image)
     }
 
     /// `events`, which leaves the same and gives no text.

@@ -3,11 +3,12 @@
 use crate::differ::{self, Same};
 use crate::met;
 use crate::shrink::{Case, shorter, zeroed};
-use against::ours;
+use against::ours::{self, Access};
+use against::image::u64_at;
 use oracle::bundle::{map_of, u32_at};
-use oracle::draw::{Rng, access, map_body, table_address, table_words, window};
+use oracle::draw::{Rng, map_body, table_address, table_words, window};
 use oracle::falcon::mmu::{AccessType, PrivMode, walker};
-use oracle::rules::{Scheme, records_ok};
+use oracle::rules::Scheme;
 use oracle::{Config, Map, Oracle, delta_bytes, make_satp, root_pa, scheme};
 
 /// What stands in `told` before a call.
@@ -128,10 +129,10 @@ impl Case for Install {
 }
 
 /// A plain walk by the bought Rust: cause, address, and the words asked for where it tells them.
-fn walked(s: &Scheme, root: u32, record: &[u8], o: &mut Oracle) -> (u32, u32, Option<u32>) {
-    let access = [AccessType::Fetch, AccessType::Load, AccessType::Store][record[4] as usize];
-    let mode = [PrivMode::U, PrivMode::S, PrivMode::M, PrivMode::M][record[5] as usize];
-    let va = u32_at(record, 0);
+fn walked(s: &Scheme, root: u32, Access(va, kind, mode): Access, o: &mut Oracle) -> (u32, u32, Option<u32>) {
+    let access = [AccessType::Fetch, AccessType::Load, AccessType::Store][kind as usize];
+    let mode = [PrivMode::U, PrivMode::S, PrivMode::M, PrivMode::M][mode as usize];
+    let va = va as u32;
     match walker::walk(&scheme(s.offset, &s.widths), root, va, &mut o.ram, access, mode) {
         Err(fault) => (fault.cause, 0, None),
         Ok(r) => {
@@ -146,7 +147,7 @@ fn walked(s: &Scheme, root: u32, record: &[u8], o: &mut Oracle) -> (u32, u32, Op
 pub struct Walk {
     scheme: Vec<u8>,
     root: u32,
-    record: Vec<u8>,
+    asked: Access,
     ram: Vec<u8>,
 }
 
@@ -158,43 +159,50 @@ impl Walk {
         let length = rng.pick(&[64, 1024, 4096, 4098, 8192]);
         let ram = table_words(rng, &s, user, length, 1 + (length > 4200) as u32);
         let root = if rng.one_in(8) { rng.next() } else { rng.below(2) | rng.below(8) << 20 };
-        let mut record = access(table_address(rng, &s, length), rng.below(3) as u8, rng.pick(&[0, 1, 3]), 0).to_vec();
-        if rng.one_in(20) {
-            let at = 4 + rng.below(4) as usize;
-            record[at] = rng.next() as u8;
+        let mut asked = Access(table_address(rng, &s, length) as u64, rng.below(3) as u8, rng.pick(&[0, 1, 3]));
+        match rng.below(40) {
+            0 => asked.1 = rng.next() as u8,
+            1 => asked.2 = rng.next() as u8,
+            // an address of more than 32 bits: a page fault, no word asked for
+            2 => asked.0 |= 1 << (32 + rng.below(32)),
+            _ => {}
         }
-        Walk { scheme, root, record, ram }
+        Walk { scheme, root, asked, ram }
     }
 
     fn refusal(&self) -> u32 {
-        let laid = self.scheme.len() == 6 && records_ok(&self.record) && self.record[6] == 0;
+        let laid = self.scheme.len() == 6 && self.asked.1 <= 2 && matches!(self.asked.2, 0 | 1 | 3);
         if !laid { 8 } else { valid(&self.scheme).map_or(1, |_| 0) }
     }
 
     fn compare(&self) -> Same {
-        let (mut ram, mut told, mut short) = (self.ram.clone(), [OLD; 13], [OLD; 11]);
-        let said = ours::walk(&self.scheme, self.root, &self.record, &mut ram, &mut short);
+        let (mut ram, mut told, mut short) = (self.ram.clone(), [OLD; 17], [OLD; 15]);
+        let root = self.root as u64;
+        let said = ours::walk(&self.scheme, root, self.asked, &mut ram, &mut short);
         differ::numbers("answer where `told` is short", said as u64, 255)?;
-        differ::bytes("`told` where it is short", &short, &[OLD; 11])?;
+        differ::bytes("`told` where it is short", &short, &[OLD; 15])?;
         differ::bytes("RAM where `told` is short", &ram, &self.ram)?;
 
-        let said = ours::walk(&self.scheme, self.root, &self.record, &mut ram, &mut told);
+        let said = ours::walk(&self.scheme, root, self.asked, &mut ram, &mut told);
         let refusal = self.refusal();
         met::number(refusal);
         differ::numbers("answer", said as u64, refusal as u64)?;
         if refusal != 0 {
-            differ::bytes("`told`", &told, &[OLD; 13])?;
+            differ::bytes("`told`", &told, &[OLD; 17])?;
             return differ::bytes("RAM", &ram, &self.ram);
         }
         let s = valid(&self.scheme).unwrap();
         let mut o = oracle(&self.ram);
-        let (cause, address, words) = walked(&s, self.root, &self.record, &mut o);
-        let asked = u32_at(&told, 8);
+        let asked = u32_at(&told, 12);
+        let (cause, address, words) = match self.asked {
+            Access(va, kind, _) if va >> 32 != 0 => ([12, 13, 15][kind as usize], 0, Some(0)),
+            q => walked(&s, self.root, q, &mut o),
+        };
         differ::numbers("cause", u32_at(&told, 0) as u64, cause as u64)?;
-        differ::numbers("address", u32_at(&told, 4) as u64, address as u64)?;
+        differ::numbers("address", u64_at(&told, 4), address as u64)?;
         let words = words.unwrap_or(asked.clamp(1, s.widths.len() as u32));
         differ::numbers("words asked for", asked as u64, words as u64)?;
-        differ::bytes("`told` past its end", &told[12..], &[OLD])?;
+        differ::bytes("`told` past its end", &told[16..], &[OLD])?;
         differ::bytes("RAM", &ram, o.ram())
     }
 }
@@ -207,15 +215,15 @@ impl Case for Walk {
     fn smaller(&self) -> Box<dyn Iterator<Item = Walk> + '_> {
         let less_ram = shorter(&self.ram, 1).take(14).map(|ram| Walk { ram, ..self.clone() });
         let plain_ram = zeroed(&self.ram, 4).map(|ram| Walk { ram, ..self.clone() });
-        let plain_record = zeroed(&self.record, 1).map(|record| Walk { record, ..self.clone() });
         let plain_root = (self.root != 0).then(|| Walk { root: 0, ..self.clone() });
-        Box::new(less_ram.chain(plain_ram).chain(plain_record).chain(plain_root))
+        Box::new(less_ram.chain(plain_ram).chain(plain_root))
     }
 
     fn tell(&self) -> String {
         let (scheme, root) = (&self.scheme, self.root);
-        let (record, ram) = (differ::records(&self.record), differ::ram(&self.ram));
-        format!("walk, scheme {scheme:02x?}, root {root:x}\n{record}{ram}")
+        let Access(va, kind, mode) = self.asked;
+        let ram = differ::ram(&self.ram);
+        format!("walk, scheme {scheme:02x?}, root {root:x}, address {va:x}, kind {kind}, privilege {mode}\n{ram}")
     }
 }
 
@@ -242,10 +250,10 @@ impl Number {
         let (n, asid) = (self.size, self.asid);
         let owed = match (self.scheme.len(), valid(&self.scheme)) {
             (6, Some(s)) => root_pa(s.offset, &s.widths, n) as u64,
-            (6, None) => (1 << 32) + 1,
-            _ => (1 << 32) + 8,
+            (6, None) => 1,
+            _ => 8,
         };
-        differ::numbers("root_pa", ours::root_pa(&self.scheme, n), owed)?;
+        differ::numbers("root_pa", ours::root_pa(&self.scheme, n as u64), owed)?;
         differ::numbers("make_satp", ours::make_satp(n, asid) as u64, make_satp(n, asid) as u64)?;
         differ::numbers("delta_bytes", ours::delta_bytes(self.mib) as u64, delta_bytes(self.mib) as u64)
     }

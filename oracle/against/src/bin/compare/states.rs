@@ -47,9 +47,9 @@ fn entry(rng: &mut Rng, b: &[u8], near: Option<u32>, classes: &[u8]) -> [u8; ima
     let age = if rng.one_in(3) { rng.next() } else { counter.wrapping_sub(rng.below(40)) };
     let asid = if rng.one_in(4) { rng.next() as u16 } else { (u32_at(b, image::SATP) >> 22 & 0x1FF) as u16 };
     image::put(&mut e, 0, &vpn.to_le_bytes());
-    image::put(&mut e, 4, &ppn.to_le_bytes());
-    image::put(&mut e, 8, &age.to_le_bytes());
-    image::put(&mut e, 12, &asid.to_le_bytes());
+    image::put(&mut e, image::PPN, &ppn.to_le_bytes());
+    image::put(&mut e, image::AGE, &age.to_le_bytes());
+    image::put(&mut e, image::ASID, &asid.to_le_bytes());
     e[image::CLASS] = class;
     e[image::FLAGS] = rng.next() as u8 | if rng.one_in(4) { 0 } else { 1 };
     e[image::REFERENCE] = rng.below(2) as u8;
@@ -65,6 +65,10 @@ fn state(rng: &mut Rng, scheme: &Scheme, satp: u32, pages: &[u32]) -> Vec<u8> {
     for k in 0..4 {
         let tally = count(rng);
         image::put(&mut b, image::TALLIES + 8 * k, &tally.to_le_bytes());
+    }
+    // satp's bits above 31 are not looked at
+    if rng.one_in(6) {
+        b[image::SATP + 4..image::SATP + 8].fill_with(|| rng.next() as u8);
     }
     // what no fit state is asked about
     let levels = scheme.widths.len();
