@@ -75,7 +75,7 @@ def good_access(record):
 # ---- schemes: 1
 
 class Scheme:
-    """'Valid: offset 12 to 30, each used width 1 to 12, all together 32.'"""
+    """'Valid: offset 12 to 30, each used width 1 to 12, all together 32.' The bundle stays with these; Sv39 is in sv39.py."""
 
     def __init__(self, offset, count, widths):
         refuse_if(not 1 <= count <= 4 or not 12 <= offset <= 30, 1)

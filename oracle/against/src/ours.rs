@@ -24,6 +24,7 @@ unsafe extern "C" {
         l: usize,
     ) -> usize;
     fn muntesulca_events(image: *mut u8, k: usize, records: *const u8, n: usize, ram: *mut u8, m: usize) -> u32;
+    fn muntesulca_new(config: *const u8, n: usize, image: *mut u8, k: usize) -> u32;
     fn muntesulca_set_scheme(image: *mut u8, k: usize, scheme: *const u8, n: usize) -> u32;
     fn muntesulca_reconfigure(image: *mut u8, k: usize, config: *const u8, n: usize) -> u32;
     fn muntesulca_install(scheme: *const u8, n: usize, map: *const u8, l: usize, ram: *mut u8, m: usize) -> u32;
@@ -104,6 +105,10 @@ pub fn records(image: &mut [u8], records: &[u8], ram: &mut [u8], out: &mut [u8])
 pub fn events(image: &mut [u8], records: &[u8], ram: &mut [u8]) -> u32 {
     let (r, n) = (records.as_ptr(), records.len());
     unsafe { muntesulca_events(image.as_mut_ptr(), image.len(), r, n, ram.as_mut_ptr(), ram.len()) }
+}
+
+pub fn new(config: &[u8], image: &mut [u8]) -> u32 {
+    unsafe { muntesulca_new(config.as_ptr(), config.len(), image.as_mut_ptr(), image.len()) }
 }
 
 pub fn set_scheme(image: &mut [u8], scheme: &[u8]) -> u32 {
