@@ -15,7 +15,6 @@ ghost use mathlib.Core.Path.{_≡_};
 ghost use Prim.Native.Nat.{_+_, _≤_};
 ghost use lib.ListN.{length};
 ghost use lib.Seq.{slice};
-ghost use Rattle.memory.specs.Word.{leAt};
 ghost use Rattle.image_read.specs.Reading.{statsRead, tlbRead, stateAt, goodImage, stateRead};
 
 // The state stands beside the answer; that of a refused string is the default one.

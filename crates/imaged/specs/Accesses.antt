@@ -13,7 +13,6 @@ use Rattle.walk.specs.declared.Access.{Access}
 use Rattle.access.specs.declared.Answer.{Answer}
 use Rattle.access.specs.declared.Outcome.{Outcome}
 use Rattle.access.specs.declared.Outcome.the-variants as Outcome
-use Rattle.access.specs.declared.Served.{Served}
 use Rattle.state.specs.declared.Mmu.{Mmu}
 use Rattle.mmu.specs.Calls.{translateOf, translateRam}
 use Rattle.layout.specs.Layout.{privilegeOk}

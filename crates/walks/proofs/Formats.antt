@@ -1,14 +1,14 @@
 -- What the two formats do with PPNs and with satp.
 use Prim.Native.Nat.{ℕ, _+_, _*_, _/_, _%_, _^_, _<_}
-use native.Mathlib.Nat.{mod-lt, add-zero}
+use native.Mathlib.Nat.{mod-lt}
 use native.Mathlib.Omega.{arith}
-use mathlib.Core.Path.{_≡_, sym, subst⁻¹, ap, _∙_}
+use mathlib.Core.Path.{_≡_, subst⁻¹, ap, _∙_}
 use mathlib.Core.Bool.{Bool, true, false, cond}
 use lib.Pow.{pow-pos, split}
 use borrow.Author.Tests.{eq-eqb, ne-eqb}
 use Rattle.pte.specs.Entry.{ppnOf}
 use Rattle.scheme.specs.Satp.{modeIn, asidIn, rootIn, rootOf, satpIn}
-use Rattle.scheme.specs.Scheme.{isSv39, sv32, sv39, formatOf}
+use Rattle.scheme.specs.Scheme.{isSv39, sv32, sv39}
 use Rattle.scheme.specs.declared.Format.{Format}
 use Rattle.scheme.specs.declared.PagingScheme.{PagingScheme}
 use Rattle.walker.specs.Descent.{frame, place}

@@ -6,7 +6,7 @@ use native.Mathlib.Omega.{arith}
 use borrow.Author.Needs.{needs}
 use lib.ListN.{length, getD, drop}
 use Rattle.scheme.specs.Scheme.{total, okWidths, widthsOf}
-use Rattle.scheme.proofs.Widths.{Valid, valid, ok-low, ok-high, ok-rest, rest-cons, rest-end, total-cons, total-end}
+use Rattle.scheme.proofs.Widths.{Valid, valid, ok-high, ok-rest, rest-cons, rest-end, total-cons, total-end}
 use Rattle.walker.specs.Descent.{seek, follow}
 use Rattle.walker.specs.declared.Met.{Met}
 use Rattle.walker.specs.declared.Descent.{Descent}

@@ -2,7 +2,6 @@
 use mathlib.Core.Path.{_≡_, sym, ap, _∙_}
 use Rattle.scheme.specs.Refusals.{onGrant}
 use Rattle.access.specs.declared.Served.{Served}
-use Rattle.mmu.specs.Calls.{translateOf}
 use Rattle.imaged.specs.Accesses.{outcomeSaid, servedSaid, servedImage, servedTold}
 use Rattle.imaged.proofs.Laws.{number-refused, number-granted}
 use borrow.Author.Needs.{needs}

@@ -1,5 +1,5 @@
 -- `asid_of`: the field that the scheme's format places, which fits 16 bits.
-use Prim.Native.Nat.{ℕ, _≤_, _^_}
+use Prim.Native.Nat.{_≤_}
 use native.Mathlib.Omega.{arith}
 use mathlib.Core.Path.{ap, subst⁻¹, _∙_}
 use lib.Pow.{pow-mono}

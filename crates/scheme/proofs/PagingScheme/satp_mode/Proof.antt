@@ -1,7 +1,6 @@
 -- `satp_mode`: the field that the scheme's format places, and the format's number for it.
 use Prim.Native.Nat.{ℕ}
 use mathlib.Core.Path.{ap, _∙_}
-use Rattle.bits.specs.Bits.{fieldOf}
 use Rattle.scheme.specs.Satp.{modeNamed, modeIn}
 use Rattle.scheme.specs.declared.Format.{Format}
 use borrow.Author.Needs.{needs}
