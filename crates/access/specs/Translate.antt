@@ -81,7 +81,7 @@ tallied hits misses faults t = record {
 
 -- ---- the probe
 
--- the page number of an address
+-- the page number of an address, whole: of Sv39's top "a cached VPN keeps those bits"
 abbrev pub vpnOf : Mmu → Access → ℕ
 vpnOf m q = q .vaddr / 2 ^ m .scheme .«offset_bits»
 

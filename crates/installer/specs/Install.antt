@@ -36,7 +36,7 @@ refuseIf false why next = next
 -- the first refusal: "The installer tests 1, 4, 5, 6, 7". `len` is the RAM's length
 unfoldable pub refusalOf : PagingScheme → PageMapSpec → Window → ℕ → ℕ → Said
 refusalOf s m win root len =
-    -- 1: "the scheme is not valid"
+    -- 1: "the scheme is not valid"; "handed Sv39, the installer gives 1"
     refuseIf (not (boughtOf s)) BadScheme
     -- 4: "the map's root is not a multiple of 4096"
     (refuseIf (not (eqb (root % 4096) 0)) RootUnaligned

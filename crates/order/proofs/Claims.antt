@@ -1,5 +1,5 @@
 -- A proof of each statement in specs/Claims.antt.
-use Rattle.order.specs.Claims.{AnyOrder, StartIsEmpty, EndBytes, CallsFit, NeverRefused, TalliesAddUp}
+use Rattle.order.specs.Claims.{AnyOrder, StartIsEmpty, EndBytes, CallsFit, NoneButTen, TalliesAddUp}
 use Rattle.mmu.proofs.Refusing.{neither-39}
 use Rattle.order.proofs.Fit.{run-granted, run-refused, run-fit, mode-known}
 use Rattle.order.proofs.Order as order
@@ -19,8 +19,8 @@ end-bytes = bytes.end-bytes
 pub calls-fit : CallsFit
 calls-fit = calls.calls-fit
 
-pub never-refused : NeverRefused
-never-refused es m ram fit = record {
+pub none-but-ten : NoneButTen
+none-but-ten es m ram fit = record {
   none = λ g. run-granted es m ram fit (mode-known (m .scheme) (m .satp .raw) g);
   ten = λ e a b. run-refused es m ram fit (neither-39 (m .scheme) (m .satp .raw) e a b);
   fit = run-fit es m ram fit;

@@ -91,8 +91,8 @@ pub record Refusing (es : List Event) (m : Mmu) (ram : List ℕ) : Type 0 where
       → refusals es m ram ≡ map (λ q. BadMode) (accesses es)
   pub fit : fitOf (endMmu es m ram) ≡ true
 
-abbrev pub NeverRefused : Type 0
-NeverRefused = (es : List Event) (m : Mmu) (ram : List ℕ) → fitOf m ≡ true → Refusing es m ram
+abbrev pub NoneButTen : Type 0
+NoneButTen = (es : List Event) (m : Mmu) (ram : List ℕ) → fitOf m ≡ true → Refusing es m ram
 
 -- "Tallies wrap at 2^64"
 abbrev pub Wraps : ℕ → ℕ → Type 0

@@ -127,10 +127,11 @@ sv39 = record {
   mode = 8;
 }
 
+-- the format of a scheme; one that is not valid has document 01's
 unfoldable pub formatOf : PagingScheme → Format
 formatOf s = cond (isSv39 s) sv39 sv32
 
--- what the formats have in common: an entry lies whole in a page and a word, addresses and their tops in a word, ASIDs in 16 bits
+-- what the formats have in common, by which the numbers of a walk fit their machine words
 pub record Modest (f : Format) : Type 0 where
   pub some : 0 < f .bytes
   pub short : f .bytes ≤ 8

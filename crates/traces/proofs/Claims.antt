@@ -23,7 +23,7 @@ use Rattle.session.specs.Session.{settingsSaid, startOf}
 use Rattle.session.specs.declared.Settings.{Settings}
 use Rattle.order.specs.Claims.{ModeGiven, Empty, Ready}
 use Rattle.walks.specs.Plain.{Bytes}
-use Rattle.order.proofs.Claims.{start-is-empty, any-order, never-refused}
+use Rattle.order.proofs.Claims.{start-is-empty, any-order, none-but-ten}
 use Rattle.order.proofs.Fit.{mode-01}
 use Rattle.maps.proofs.Claims.{bytes-stay}
 use Rattle.text.specs.Lines.{refusedLine}
@@ -102,7 +102,7 @@ module _ (s : List ℕ) (e : earlyIn s ≡ Granted) where
 pub nothing-refused : NothingRefused
 nothing-refused s e =
     let start = empty s e in
-    let run = never-refused (eventsIn s) (startIn s) (ramIn s) (start .fit) in
+    let run = none-but-ten (eventsIn s) (startIn s) (ramIn s) (start .fit) in
     (run .none (subst (λ (x : Settings). ModeGiven (x .scheme) (x .satp)) (sym (start .settings)) (start .mode)), run .fit)
 
 -- ---- the answers

@@ -46,17 +46,17 @@ entryIs shift a w =
     badIf (not (validBit w)) Invalid
     -- step 3: "W set with R clear"
     (badIf (reserved (permsOf w)) WriteOnly
-    -- "Bits 63-54 set in an entry fault next after W without R"
+    -- "Bits 63-54 set in an entry fault next after W without R"; "11, high bits set"
     (badIf (highBits w) HighBits
     -- step 4: "If R, W and X are all clear" the PPN is the next table; "Otherwise it is a leaf"
     (cond (leafOf w) (leafIs shift a w) (Table (ppnOf w)))))
 
 module _ (f : Format) where
-  -- a frame's address: the PPN "times 4096 and kept to 32 bits", or to Sv39's 56, which cuts no PPN of 44
+  -- a frame's address: the PPN "times 4096 and kept to 32 bits"; on Sv39 to 56, which cuts no PPN of 44: "Frames are not cut to 32 bits"
   unfoldable pub frame : ℕ → ℕ
   frame ppn = ppn * 2 ^ 12 % 2 ^ f .space
 
-  -- where entry i of the table in the frame t stands: "table plus 4 times index, wrapping at 2^32"
+  -- where entry i of the table in the frame t stands: "table plus 4 times index, wrapping at 2^32"; on Sv39 "nothing wraps"
   unfoldable pub place : ℕ → ℕ → ℕ
   place t i = (frame t + f .bytes * i) % 2 ^ f .space
 

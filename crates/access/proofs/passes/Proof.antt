@@ -1,3 +1,4 @@
+-- `passes`: the three ways past translation, as `passesWith` has them.
 use borrow.Author.Needs.{needs}
 use Rattle.access.proofs.passes.Statement.{statement}
 use Rattle.access.proofs.passes.Tie as tie

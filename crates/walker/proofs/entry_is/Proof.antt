@@ -1,3 +1,4 @@
+-- `entry_is`: its tests in their order are those of `entryIs`.
 use mathlib.Core.Path.{_≡_, _∙_, ap}
 use mathlib.Core.Bool.{false, not}
 use Rattle.pte.specs.Entry.{validBit, permsOf, reserved, highBits}

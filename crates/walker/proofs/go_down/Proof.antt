@@ -1,3 +1,4 @@
+-- `go_down`: after each level what is left to seek is what was asked for.
 use Prim.Native.Nat.{ℕ, _+_, _-_, _≤_}
 use mathlib.Core.Path.{_≡_, refl, sym, ap, _∙_}
 use mathlib.Core.Bool.{true}

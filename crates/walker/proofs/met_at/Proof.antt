@@ -1,3 +1,4 @@
+-- `met_at`: the word is loaded and judged, or it is not readable.
 use mathlib.Core.Path.{sym, _∙_, ap}
 use Rattle.walker.specs.Descent.{entryIs}
 use Rattle.memory.proofs.Reading.{is-word, no-word}

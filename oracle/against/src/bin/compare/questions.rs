@@ -3,8 +3,8 @@
 use crate::differ::{self, Same};
 use crate::met;
 use crate::shrink::{Case, shorter, zeroed};
-use against::ours::{self, Access};
 use against::image::u64_at;
+use against::ours::{self, Access};
 use oracle::bundle::{map_of, u32_at};
 use oracle::draw::{Rng, map_body, table_address, table_words, window};
 use oracle::falcon::mmu::{AccessType, PrivMode, walker};
@@ -18,13 +18,13 @@ fn oracle(ram: &[u8]) -> Oracle {
     Oracle::new(Config { entries: 1, ways: 1, policy: 0, hit_latency: 0, miss_penalty: 0 }, ram)
 }
 
-/// A scheme's six bytes, broken now and then.
+/// A scheme's six bytes, broken now and then, by no number that makes it Sv39: the bought Rust has no answers there.
 fn scheme_bytes(rng: &mut Rng) -> Vec<u8> {
     let levels = 1 + rng.below(4) as usize;
     let mut bytes = Scheme::draw(rng, levels).bytes().to_vec();
     if rng.one_in(12) {
         let at = rng.below(6) as usize;
-        bytes[at] = bytes[at].wrapping_add(rng.pick(&[1, 0xFF, 7]));
+        bytes[at] = bytes[at].wrapping_add(rng.pick(&[1, 0xFF, 6]));
     }
     if rng.one_in(40) {
         bytes.pop();
@@ -255,6 +255,10 @@ impl Number {
         };
         differ::numbers("root_pa", ours::root_pa(&self.scheme, n as u64), owed)?;
         differ::numbers("make_satp", ours::make_satp(n, asid) as u64, make_satp(n, asid) as u64)?;
+        // Sv39's, which the bought Rust has not: mode 8, the ASID above 44 bits of PPN
+        let root = (n as u64) << 24 | n as u64;
+        let fields = 8u64 << 60 | (asid as u64) << 44 | root >> 12 & ((1 << 44) - 1);
+        differ::numbers("make_satp39", ours::make_satp39(root, asid), fields)?;
         differ::numbers("delta_bytes", ours::delta_bytes(self.mib) as u64, delta_bytes(self.mib) as u64)
     }
 }
