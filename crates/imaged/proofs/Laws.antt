@@ -1,6 +1,6 @@
 -- What the proofs of this crate share: an answer's number, a call on an image by what is laid out, and the length of a configuration.
 use Prim.Native.Nat.{ℕ, _≤_}
-use mathlib.Core.Path.{_≡_, refl}
+use mathlib.Core.Path.{_≡_, refl, sym}
 use mathlib.Core.Bool.{Bool, true, false, cond}
 use mathlib.Core.List.{List}
 use native.Mathlib.Omega.{arith}
@@ -16,6 +16,7 @@ use Rattle.state.specs.declared.Mmu.{Mmu}
 use Rattle.mmu.specs.Calls.{refusedWith}
 use Rattle.mmu.specs.declared.Kept.{Kept}
 use Rattle.image_read.specs.Reading.{stateRead}
+use Rattle.image_read.specs.declared.StateRead.{StateRead}
 use Rattle.imaged.specs.Imaged.{saidNumber, laidOut, keptIn, calledOn, configGiven}
 
 pub number-refused : {said : Said} {why : Refusal} → said ≡ Refused why → saidNumber said ≡ numberOf why
@@ -38,17 +39,22 @@ module _ (good : Bool) (image : List ℕ) (call : Mmu → Kept) where
   unfolding calledOn laidOut onGrant
   called-bad e = rw e
 
-  pub called-refused : {why : Refusal} → stateRead image .said ≡ Refused why → calledOn good image call ≡ refusedWith BadLayout (stateRead image .mmu)
-  unfolding calledOn laidOut onGrant
-  called-refused {why} e = rw e (go good)
+  -- a call made on what was read, whatever it was, and kept where it was an image
+  pub called-good : {r : ℕ} {after : List ℕ} {got : StateRead} {k : Kept}
+      → good ≡ true
+      → got ≡ stateRead image
+      → k ≡ call (got .mmu)
+      → (r ≡ onGrant (got .said) (saidNumber (k .said)) 8) × (after ≡ onGrant (got .said) (keptIn k image) image)
+      → (r ≡ saidNumber (calledOn good image call .said)) × (after ≡ keptIn (calledOn good image call) image)
+  unfolding calledOn laidOut onGrant saidNumber keptIn
+  called-good {r} {after} {got} {k} e f g p = rw (e, sym f, sym g) (go (got .said) p)
     where
-      go : (b : Bool) → onGrant (cond b (Refused why) (Refused BadLayout)) (call (stateRead image .mmu)) (refusedWith BadLayout (stateRead image .mmu)) ≡ refusedWith BadLayout (stateRead image .mmu)
-      go true = refl
-      go false = refl
-
-  pub called-good : good ≡ true → stateRead image .said ≡ Granted → calledOn good image call ≡ call (stateRead image .mmu)
-  unfolding calledOn laidOut onGrant
-  called-good e f = rw (e, f)
+      go : (read : Said)
+          → (r ≡ onGrant read (saidNumber (k .said)) 8) × (after ≡ onGrant read (keptIn k image) image)
+          → (r ≡ saidNumber (onGrant read k (refusedWith BadLayout (got .mmu)) .said))
+          × (after ≡ keptIn (onGrant read k (refusedWith BadLayout (got .mmu))) image)
+      go Granted p = p
+      go (Refused why) p = p
 
 -- ---- what is laid out
 

@@ -110,9 +110,8 @@ fn serve_on(m: Mmu, q: Access, image: &mut [u8], ram: &mut [u8], told: &mut [u8]
     match said {
         Said::Refused(why) => why.number(),
         Said::Granted => {
-            let n = s.mmu;
             put_answer(told, a);
-            image::put_state(n, image);
+            image::put_state(s.mmu, image);
             0
         }
     }
@@ -142,9 +141,6 @@ pub fn translate(
     let said = got.said;
     match said {
         Said::Refused(why) => 8,
-        Said::Granted => {
-            let m = got.mmu;
-            serve_on(m, access_by(vaddr, kind, mode), image, ram, told)
-        }
+        Said::Granted => serve_on(got.mmu, access_by(vaddr, kind, mode), image, ram, told),
     }
 }

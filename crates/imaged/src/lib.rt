@@ -3,6 +3,7 @@ use mmu::Kept;
 use scheme::Refusal;
 use scheme::Said;
 ghost use mathlib.Core.Path.{_≡_};
+ghost use Rattle.scheme.specs.Refusals.{onGrant};
 ghost use Rattle.imaged.specs.Imaged.{saidNumber, laidOut, keptIn, schemedOf, configGiven, configuredOf, madeNumber, madeImage, flushedOf, flushedAtOf};
 
 mod accesses;
@@ -22,16 +23,21 @@ pub fn said_number(said: Said) -> u32
     }
 }
 
-// Stores the state of a call that was granted.
-fn keep(k: Kept, image: &mut [u8]) -> u32
-    ensures { λ r. ⌜ (r ≡ saidNumber (k .said)) × (now (image .exit) ≡ keptIn k (now (image .entry))) ⌝ }
+// Stores the state of a call that was granted. The call was made on what was read, whatever it was: here it goes nowhere if that was no image.
+fn keep(read: Said, k: Kept, image: &mut [u8]) -> u32
+    ensures { λ r. ⌜ (r ≡ onGrant read (saidNumber (k .said)) 8) × (now (image .exit) ≡ onGrant read (keptIn k (now (image .entry))) (now (image .entry))) ⌝ }
 {
+    match read {
+        Said::Refused(_) => {
+            return 8;
+        }
+        Said::Granted => {}
+    }
     let said = k.said;
     match said {
         Said::Refused(why) => why.number(),
         Said::Granted => {
-            let m = k.mmu;
-            image::put_state(m, image);
+            image::put_state(k.mmu, image);
             0
         }
     }
@@ -56,17 +62,11 @@ pub fn set_scheme(image: &mut [u8], scheme: &[u8]) -> u32
     if scheme.len() != 6 {
         return 8;
     }
+    let s = bundle::scheme_at(scheme, 0);
     let got = image_read::state_in(image);
-    let said = got.said;
-    match said {
-        Said::Refused(why) => 8,
-        Said::Granted => {
-            let m = got.mmu;
-            let s = bundle::scheme_at(scheme, 0);
-            let k = mmu::set_scheme(m, s);
-            keep(k, image)
-        }
-    }
+    let read = got.said;
+    let k = mmu::set_scheme(got.mmu, s);
+    keep(read, k, image)
 }
 
 fn config_given(config: &[u8]) -> bool
@@ -91,7 +91,7 @@ pub fn new(config: &[u8], image: &mut [u8]) -> u32
     }
     let c = bundle::config_at(config, 0);
     let k = mmu::new(c);
-    keep(k, image)
+    keep(Said::Granted, k, image)
 }
 
 // `mmu::reconfigure` on an image; the configuration is six bytes.
@@ -102,17 +102,11 @@ pub fn reconfigure(image: &mut [u8], config: &[u8]) -> u32
     if !config_given(config) {
         return 8;
     }
+    let c = bundle::config_at(config, 0);
     let got = image_read::state_in(image);
-    let said = got.said;
-    match said {
-        Said::Refused(why) => 8,
-        Said::Granted => {
-            let m = got.mmu;
-            let c = bundle::config_at(config, 0);
-            let k = mmu::reconfigure(m, c);
-            keep(k, image)
-        }
-    }
+    let read = got.said;
+    let k = mmu::reconfigure(got.mmu, c);
+    keep(read, k, image)
 }
 
 // `mmu::flush` on an image.
@@ -121,15 +115,9 @@ pub fn flush(image: &mut [u8]) -> u32
         × (now (image .exit) ≡ keptIn (flushedOf (now (image .entry))) (now (image .entry))) ⌝ }
 {
     let got = image_read::state_in(image);
-    let said = got.said;
-    match said {
-        Said::Refused(why) => 8,
-        Said::Granted => {
-            let m = got.mmu;
-            let k = mmu::flush(m);
-            keep(k, image)
-        }
-    }
+    let read = got.said;
+    let k = mmu::flush(got.mmu);
+    keep(read, k, image)
 }
 
 // `mmu::flush_vaddr` on an image.
@@ -138,13 +126,7 @@ pub fn flush_vaddr(image: &mut [u8], vaddr: u64) -> u32
         × (now (image .exit) ≡ keptIn (flushedAtOf (now (image .entry)) vaddr) (now (image .entry))) ⌝ }
 {
     let got = image_read::state_in(image);
-    let said = got.said;
-    match said {
-        Said::Refused(why) => 8,
-        Said::Granted => {
-            let m = got.mmu;
-            let k = mmu::flush_vaddr(m, vaddr);
-            keep(k, image)
-        }
-    }
+    let read = got.said;
+    let k = mmu::flush_vaddr(got.mmu, vaddr);
+    keep(read, k, image)
 }

@@ -2,6 +2,7 @@
 use mathlib.Core.Path.{sym, _∙_}
 use denote.Ref.{now}
 use borrow.Author.Tests.{le-leb, lt-leb, not-true, not-false}
+use Rattle.scheme.specs.Refusals.{onGrant}
 use Rattle.imaged.specs.Imaged.{saidNumber, laidOut, madeNumber, madeImage}
 use Rattle.imaged.proofs.Laws.{config-room}
 use borrow.Author.Needs.{needs}
@@ -36,7 +37,7 @@ same-length : tie.Need-same-length
 same-length c = search needs
 
 returns-3 : tie.Need-returns-3
-unfolding madeNumber madeImage laidOut
+unfolding madeNumber madeImage laidOut onGrant
 returns-3 c =
     let k = c .before .before in
     let n = k .before .before in

@@ -60,7 +60,7 @@ unfolding servedImage servedTold onGrant
 returns-2 c =
     let p = c .before .before in
     let a = p .before .before .before .before in
-    let t = a .before .before .before in
+    let t = a .before .before in
     let s = t .before .before in
     let tr = s .before .before .before .before in
     let h = sym (said s) ∙ t .enum-told .given .1 in (

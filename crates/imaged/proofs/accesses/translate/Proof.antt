@@ -70,7 +70,7 @@ unfolding translatedNumber translatedImage translatedRam translatedTold onGrant
 returns-4 c =
     let s = c .before .before .before .before .before .before in
     let b = s .before .before .before .before in
-    let t = b .before .before in
+    let t = b .before in
     let i = t .before .before in
     let l = i .before .before in
     let e = le-ltb _ _ (l .before .before .if1 .left) in
