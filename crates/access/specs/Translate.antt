@@ -28,7 +28,8 @@ use Rattle.tlb.specs.declared.Lookup.{Lookup}
 use Rattle.tlb.specs.declared.Lookup.the-variants.{Found, Absent}
 use Rattle.state.specs.State.{withTlb}
 use Rattle.state.specs.declared.Mmu.{Mmu}
-use Rattle.access.specs.declared.Outcome.the-variants.{Ok, Err}
+use Rattle.access.specs.declared.Outcome.{Outcome}
+use Rattle.access.specs.declared.Outcome.the-variants.{Ok, Err, Refused}
 use Rattle.access.specs.declared.Answer.{Answer}
 use Rattle.access.specs.declared.Consulted.{Consulted}
 use Rattle.access.specs.declared.Served.{Served}
@@ -111,6 +112,12 @@ okAt words pa stall = record { words = words; outcome = Ok (record { paddr = pa;
 
 abbrev pub faultOf : ℕ → Access → Answer
 faultOf words q = record { words = words; outcome = Err (record { cause = causeOf (q .kind); vaddr = q .vaddr }) }
+
+-- the cause that an outcome tells, 0 where there is none
+abbrev pub causeIn : Outcome → ℕ
+causeIn (Ok p) = 0
+causeIn (Err f) = f .cause
+causeIn (Refused why) = 0
 
 -- "gives the same address, stall 0, nothing touched"
 abbrev pub passedOf : Mmu → Access → Served

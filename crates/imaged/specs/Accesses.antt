@@ -14,6 +14,7 @@ use Rattle.access.specs.declared.Answer.{Answer}
 use Rattle.access.specs.declared.Outcome.{Outcome}
 use Rattle.access.specs.declared.Outcome.the-variants as Outcome
 use Rattle.state.specs.declared.Mmu.{Mmu}
+use Rattle.access.specs.Translate.{causeIn}
 use Rattle.mmu.specs.Calls.{translateOf, translateRam}
 use Rattle.layout.specs.Layout.{privilegeOk}
 use Rattle.bundle.specs.Codes.{accessOf, modeOf}
@@ -37,11 +38,6 @@ accessBy va kind mode = record { vaddr = va; kind = accessOf kind; mode = modeOf
 unfoldable pub toldBytes : ℕ → ℕ → ℕ → List ℕ
 toldBytes cause place words = leBytes 4 cause ++ (leBytes 8 place ++ leBytes 4 words)
 
-abbrev pub outcomeCause : Outcome → ℕ
-outcomeCause (Outcome.Ok p) = 0
-outcomeCause (Outcome.Err f) = f .cause
-outcomeCause (Outcome.Refused why) = 0
-
 abbrev pub outcomePlace : Outcome → ℕ
 outcomePlace (Outcome.Ok p) = p .paddr
 outcomePlace (Outcome.Err f) = 0
@@ -54,7 +50,7 @@ outcomeStall (Outcome.Refused why) = 0
 
 -- and u32 stall, 0 on a fault
 unfoldable pub answerTold : Answer → List ℕ
-answerTold a = toldBytes (outcomeCause (a .outcome)) (outcomePlace (a .outcome)) (a .words) ++ leBytes 4 (outcomeStall (a .outcome))
+answerTold a = toldBytes (causeIn (a .outcome)) (outcomePlace (a .outcome)) (a .words) ++ leBytes 4 (outcomeStall (a .outcome))
 
 -- ---- what is answered and left
 

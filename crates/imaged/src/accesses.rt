@@ -8,9 +8,10 @@ ghost use mathlib.Core.Path.{_≡_};
 ghost use Prim.Native.Nat.{_≤_};
 ghost use lib.ListN.{length};
 ghost use Rattle.writer.specs.Put.{Put};
+ghost use Rattle.access.specs.Translate.{causeIn};
 ghost use Rattle.mmu.specs.Calls.{translateRam};
 ghost use Rattle.imaged.specs.Imaged.{saidNumber};
-ghost use Rattle.imaged.specs.Accesses.{accessGiven, accessBy, toldBytes, outcomeCause, outcomePlace, outcomeStall, answerTold, outcomeSaid, servedSaid, servedImage, servedTold};
+ghost use Rattle.imaged.specs.Accesses.{accessGiven, accessBy, toldBytes, outcomePlace, outcomeStall, answerTold, outcomeSaid, servedSaid, servedImage, servedTold};
 ghost use Rattle.imaged.specs.Accesses.{translatedNumber, translatedImage, translatedRam, translatedTold};
 
 // Whether kind and privilege are the bundle's numbers.
@@ -43,7 +44,7 @@ pub fn put_told(told: &mut [u8], cause: u32, place: u64, words: u32) -> usize
 }
 
 fn cause_of(o: Outcome) -> u32
-    ensures { λ r. ⌜ r ≡ outcomeCause o ⌝ }
+    ensures { λ r. ⌜ r ≡ causeIn o ⌝ }
 {
     match o {
         Outcome::Ok(_) => 0,

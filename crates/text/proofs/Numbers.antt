@@ -21,9 +21,8 @@ use Rattle.entry.specs.declared.TlbEntry.{TlbEntry}
 use Rattle.tlb.specs.declared.Lookup.{Lookup}
 use Rattle.tlb.specs.declared.Lookup.the-variants.{Found, Absent}
 use Rattle.state.specs.declared.Mmu.{Mmu}
-use Rattle.access.specs.Translate.{bypassed, consultOf, entryPermits, foundServed, lookServed, missWalk, passedOf, servedOf, walkServed}
+use Rattle.access.specs.Translate.{bypassed, causeIn, consultOf, entryPermits, foundServed, lookServed, missWalk, passedOf, servedOf, walkServed}
 use Rattle.access.specs.declared.Served.{Served}
-use Rattle.text.specs.Lines.{causeIn}
 
 refusal-below : (r : Refusal) → numberOf r < 100
 refusal-below BadScheme = omega arith

@@ -87,13 +87,6 @@ answerLine va (Ok p) = okLine va (p .paddr) (p .stall)
 answerLine va (Err f) = faultLine va (f .cause)
 answerLine va (Refused r) = refusedLine r
 
--- the cause that an outcome tells, 0 where there is none. A u32 may have ten digits; "fetch 12, load 13, store 15" have two, and
--- `put_answer` asks for no more than three, so that no line is longer than an ok line
-abbrev pub causeIn : Outcome → ℕ
-causeIn (Ok p) = 0
-causeIn (Err f) = f .cause
-causeIn (Refused r) = 0
-
 -- ---- case T's lines, and a refusal
 
 -- `003ffffc ok 003ffffc 1`
