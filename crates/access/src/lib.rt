@@ -1,5 +1,7 @@
 // One access on a fit state, and the parts of its answer that ask neither the TLB nor RAM: who passes, the tallies, the answer of a found
 // entry, and what a walk is remembered as.
+#![tactic(auto)]
+
 ghost use Rattle.std.specs.Prelude.{◌≡◌, ◌-◌, ◌<◌, ◌≤◌};
 ghost use Rattle.state.specs.State.{with_tlb};
 ghost use Rattle.access.specs.Translate.{is_bare, is_machine, is_store, passes_with, tallied, decides, ok_at, fault_of, found_served, made_with};
@@ -11,13 +13,13 @@ use tlb::{Lookup, Tlb};
 use walk::{Access, PageFault, WalkResult};
 
 // A physical address, and how long the access stalls.
-#[derive(Drop)]
+#[derive(Clone, Copy)]
 pub struct Place {
     pub paddr: u64,
     pub stall: u8,
 }
 
-#[derive(Drop)]
+#[derive(Clone, Copy)]
 pub enum Outcome {
     Ok(Place),
     Err(PageFault),
@@ -25,20 +27,20 @@ pub enum Outcome {
 }
 
 // What translate answers, with the words that a walk asked for: 0 where no walk was made.
-#[derive(Drop)]
+#[derive(Clone, Copy)]
 pub struct Answer {
     pub words: u32,
     pub outcome: Outcome,
 }
 
-#[derive(Drop)]
+#[derive(Clone, Copy)]
 pub struct Served {
     pub said: Answer,
     pub mmu: Mmu,
 }
 
 // What the TLB has to say of an access: an entry that decides it, or nothing; and the state after the probe.
-#[derive(Drop)]
+#[derive(Clone, Copy)]
 pub struct Consulted {
     pub lookup: Lookup,
     pub mmu: Mmu,

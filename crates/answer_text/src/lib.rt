@@ -1,4 +1,6 @@
 // The line of an access, put into a lent buffer: each function writes at `at` and answers the place after its line.
+#![tactic(auto)]
+
 ghost use Rattle.std.specs.Prelude.{◌+◌, ◌≤◌, ◌<◌, length};
 ghost use Rattle.writer.specs.Put.{Put};
 ghost use Rattle.text.specs.Lines.{ok_line, fault_line, answer_line};

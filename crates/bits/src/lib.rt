@@ -1,4 +1,6 @@
 // Fields of 64-bit words by masks and shifts, said in plain arithmetic. All are total: 64 bits or more are the whole word.
+#![tactic(auto)]
+
 ghost use Rattle.std.specs.Prelude.{◌≡◌, ◌/◌, ◌%◌, ◌^◌, ◌<◌};
 ghost use Rattle.bits.specs.Bits.{field_of, with_low};
 

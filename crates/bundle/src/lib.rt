@@ -1,4 +1,6 @@
 // Reads a trace bundle: its settings, its map, and where its RAM and its accesses lie.
+#![tactic(auto)]
+
 ghost use Rattle.std.specs.Prelude.{◌≡◌, true, ◌+◌, ◌≤◌, length};
 ghost use Rattle.layout.specs.Layout.{good_of};
 ghost use Rattle.bundle.specs.Parts.{scheme_at, config_at, settings_at, body_at, map_part_at, event_at, parts_of, no_parts, read_of};
@@ -15,21 +17,21 @@ mod codes;
 
 pub use codes::{access_from, mode_from};
 
-#[derive(Drop)]
+#[derive(Clone, Copy)]
 pub struct MapBody {
     pub spec: PageMapSpec,
     pub root: u32,
     pub window: Window,
 }
 
-#[derive(Drop)]
+#[derive(Clone, Copy)]
 pub enum MapPart {
     None,
     Map(MapBody),
 }
 
 // RAM is the `ram_len` bytes from `ram_start`, and the accesses are `count` records of 8 bytes from `first`.
-#[derive(Drop)]
+#[derive(Clone, Copy)]
 pub struct Parts {
     pub config: TlbConfig,
     pub settings: Settings,
@@ -41,7 +43,7 @@ pub struct Parts {
 }
 
 // The parts stand beside the answer, since no enum holds an array; those of a refused file are the default ones.
-#[derive(Drop)]
+#[derive(Clone, Copy)]
 pub struct Reading {
     pub said: Said,
     pub parts: Parts,

@@ -1,4 +1,6 @@
 // A run of what was read: the MMU is set up, the bundle's RAM copied, its map installed, its records run and their lines put.
+#![tactic(auto)]
+
 ghost use Rattle.std.specs.Prelude.{◌≡◌, ◌+◌, ◌*◌, ◌≤◌, length};
 ghost use Rattle.std.proofs.lemmas.List.Edits.{sets};
 ghost use Rattle.writer.specs.Put.{Put};

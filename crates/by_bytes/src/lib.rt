@@ -1,4 +1,6 @@
 // What a host asks for with bytes and numbers alone and no state: a map, a walk, a root. Answers are numbers.
+#![tactic(auto)]
+
 ghost use Rattle.std.specs.Prelude.{◌≡◌, ◌≤◌, length};
 ghost use Rattle.walk.specs.Answer.{walk_reply, walk_ram};
 ghost use Rattle.writer.specs.Put.{Put};

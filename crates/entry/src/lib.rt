@@ -1,10 +1,12 @@
 // One entry of the TLB, the replacement policies, and how many entries and sets a configuration gives. All by value, over entries and numbers.
+#![tactic(auto)]
+
 ghost use Rattle.std.specs.Prelude.{◌≡◌, true, ◌/◌, ◌%◌, ◌^◌, ◌<◌, max};
 ghost use Rattle.entry.specs.Entry.{blank, marked, matches_of, touched_of, is_clock, fresh_of, cleared_of, unreferenced_of, better_of};
 ghost use Rattle.entry.specs.Geometry.{default_config, pow_up, ways_for, entries_for, sets_for};
 
 // Six ways to pick the slot that an install gives up.
-#[derive(Drop)]
+#[derive(Clone, Copy)]
 pub enum ReplacementPolicy {
     Lru,
     Mru,
@@ -15,7 +17,7 @@ pub enum ReplacementPolicy {
 }
 
 // The wide fields first, so that an entry takes 32 bytes.
-#[derive(Drop)]
+#[derive(Clone, Copy)]
 pub struct TlbEntry {
     pub vpn: u64,
     pub ppn: u64,
@@ -30,7 +32,7 @@ pub struct TlbEntry {
     pub ref_bit: bool,
 }
 
-#[derive(Drop)]
+#[derive(Clone, Copy)]
 pub struct TlbConfig {
     pub entry_count: u16,
     pub associativity: u8,

@@ -1,5 +1,7 @@
 // The TLB's entries as bytes, 25 for each, little-endian: written into a lent buffer, and read. Each function that writes does so
 // at `at` and answers the place after what it wrote.
+#![tactic(auto)]
+
 ghost use Rattle.std.specs.Prelude.{◌≡◌, cond, ◌+◌, ◌≤◌, length};
 ghost use Rattle.memory.specs.Word.{le_at};
 ghost use Rattle.writer.specs.Put.{Put};

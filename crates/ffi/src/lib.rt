@@ -1,5 +1,7 @@
 // What a host in C or Rust links: numbers and byte slices alone, a slice as a pointer and a length. Names begin with the project's, since a
 // name is the whole program's.
+#![tactic(auto)]
+
 ghost use Rattle.std.specs.Prelude.{◌≡◌, cond, length};
 ghost use Rattle.scheme.specs.Satp.{satp_in};
 ghost use Rattle.scheme.specs.Scheme.{sv32, sv39};

@@ -1,5 +1,7 @@
 // Bits, entries, words of RAM, schemes, satp and the map's offset, as a script asks for them. The first lines of stdin say what its letters
 // stand for. What it must print was worked out from documents 01 and 02, and stands in stdout.
+#![tactic(auto)]
+
 use script::Step;
 
 mod fields;

@@ -1,4 +1,6 @@
 // Runs the records of a list, one after another, for the state and the RAM that they leave: no lines are put.
+#![tactic(auto)]
+
 ghost use Rattle.std.specs.Prelude.{◌≡◌, ◌*◌, ◌≤◌, length};
 ghost use Rattle.session.specs.Session.{step_mmu, step_ram, end_mmu, end_ram};
 ghost use Rattle.steps.specs.Steps.{events_from};

@@ -1,6 +1,8 @@
 // The host's calls: one MMU is kept for the session and lent to each call. Each takes the state out, calls the by-value
 // core, stores the state that comes back, and returns the answer. The borrow checker does not cover a reference to a
 // struct, so each is proved by a walk of its code; the walk is a law of the crate `lent`, one for each shape of call.
+#![tactic(auto)]
+
 ghost use Rattle.std.specs.Prelude.{◌≡◌};
 ghost use Rattle.mmu.specs.Calls.{set_scheme_of, reconfigure_of, flush_of, flush_vaddr_of, translate_of, translate_ram};
 ghost use Rattle.host.specs.Lent.{kept, served};

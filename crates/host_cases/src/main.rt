@@ -1,6 +1,8 @@
 // One MMU is kept for a session and lent to each of the host's calls, as a script asks for it. The first lines of stdin say what its letters
 // stand for. The bought Rust was run on the same calls where none is refused, and stdout holds its answers; refusals and words are
 // document 01's.
+#![tactic(auto)]
+
 use lending::Session;
 use script::Step;
 use state::Mmu;

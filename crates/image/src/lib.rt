@@ -1,5 +1,7 @@
 // The MMU's state as bytes, written into a lent buffer: 3,416 of them, little-endian, each field at a fixed place.
 // Each function but the last that writes does so at `at` and answers the place after what it wrote.
+#![tactic(auto)]
+
 ghost use Rattle.std.specs.Prelude.{◌++◌, ◌≡◌, ◌+◌, ◌*◌, ◌≤◌, length};
 ghost use Rattle.entry.specs.Entry.{policy_number};
 ghost use Rattle.writer.specs.Put.{Put};

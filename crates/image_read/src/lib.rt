@@ -1,4 +1,6 @@
 // The MMU's state, read from its image, and whether bytes are an image.
+#![tactic(auto)]
+
 ghost use Rattle.std.specs.Prelude.{◌≡◌, ◌+◌, ◌≤◌, length};
 ghost use Rattle.std.proofs.Math.Seq.{slice};
 ghost use Rattle.image_read.specs.Reading.{stats_read, tlb_read, state_at, good_image, state_read};
@@ -11,7 +13,7 @@ use state::Mmu;
 use tlb::{Tlb, TlbStats};
 
 // The state stands beside the answer; that of a refused string is the default one.
-#[derive(Drop)]
+#[derive(Clone, Copy)]
 pub struct StateRead {
     pub said: Said,
     pub mmu: Mmu,

@@ -1,4 +1,6 @@
 // Calls on a state that is held as its image, as a host in another language keeps it: a new one, a scheme, a configuration, a flush, one access.
+#![tactic(auto)]
+
 ghost use Rattle.std.specs.Prelude.{◌≡◌};
 ghost use Rattle.scheme.specs.Refusals.{on_grant};
 ghost use Rattle.imaged.specs.Imaged.{said_number, laid_out, kept_in, schemed_of, config_given, configured_of, made_number, made_image, flushed_of, flushed_at_of};

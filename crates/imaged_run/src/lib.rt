@@ -1,4 +1,6 @@
 // Lists of records on a state that is held as its image: for the state and the RAM alone, or with their lines.
+#![tactic(auto)]
+
 ghost use Rattle.std.specs.Prelude.{◌≡◌, cond, ◌+◌, ◌*◌, ◌≤◌, ◌/◌, ltb, length};
 ghost use Rattle.session.specs.Session.{end_mmu, end_ram};
 ghost use Rattle.text.specs.Lines.{refused_line};

@@ -1,4 +1,6 @@
 // The map installer: a table's entries in order, an entry's child table in its own stretch of RAM.
+#![tactic(auto)]
+
 ghost use Rattle.std.specs.Prelude.{◌≡◌, ◌≤◌, ◌<◌, ◌+◌, ◌-◌, ◌*◌, ◌^◌, length};
 ghost use Rattle.memory.specs.Word.{put_at};
 ghost use Rattle.plan.specs.Map.{table_bytes};

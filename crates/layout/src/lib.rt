@@ -1,4 +1,6 @@
 // The layout of a trace bundle: whether a file is one, tested over all its bytes. Little-endian numbers in a file.
+#![tactic(auto)]
+
 ghost use Rattle.std.specs.Prelude.{◌≡◌, ◌||◌, ◌+◌, ◌*◌, ◌≤◌, ◌<◌, eqb, length};
 ghost use Rattle.memory.specs.Word.{le_at};
 ghost use Rattle.layout.specs.Layout.{front_ok, row_ok, len_at, rows_ok, sizes_ok, head_ok};

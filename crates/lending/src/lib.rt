@@ -1,5 +1,7 @@
 // An MMU that is kept in a local and lent: to one access, and in a session in small to each of the host's calls, one after another. The
 // parameters are plain, so that callers are covered and need no walk.
+#![tactic(auto)]
+
 ghost use Rattle.std.specs.Prelude.{◌≡◌};
 ghost use Rattle.mmu.specs.Calls.{translate_of, translate_ram};
 ghost use Rattle.lending.specs.Session.{session_of};
@@ -21,7 +23,7 @@ pub fn translate_kept(m: Mmu, q: Access, ram: &mut [u8]) -> Served
 }
 
 // What each call answers, and the state that it leaves.
-#[derive(Drop)]
+#[derive(Clone, Copy)]
 pub struct Session {
     pub translated: Served,
     pub dropped: Kept,

@@ -2,6 +2,8 @@
 // levels, offsets that wrap, RAM that is not zero. The first lines of stdin say what its letters stand for. The bought Rust was run on the same
 // maps under the relative rule where nothing is refused, and stdout holds its answers; refusals are document 01's, and what the absolute
 // rule writes was worked out from it by a script of its own.
+#![tactic(auto)]
+
 ghost use Rattle.std.specs.Prelude.{◌<◌};
 
 use bundle::MapBody;
@@ -10,7 +12,7 @@ use script::Step;
 
 // What maps are installed under: the scheme, the kind, flags and MiB of the map as the trace bundle has them, and what each byte of RAM is
 // before.
-#[derive(Drop)]
+#[derive(Clone, Copy)]
 struct Setting {
     scheme: PagingScheme,
     kind: u64,

@@ -1,1 +1,2 @@
 // No code: what holds of every installed map.
+#![tactic(auto)]

@@ -1,8 +1,10 @@
 // Little-endian words of up to eight bytes in a lent stretch of RAM.
+#![tactic(auto)]
+
 ghost use Rattle.std.specs.Prelude.{◌≡◌, ◌<◌, ◌≤◌};
 ghost use Rattle.memory.specs.Word.{readable, word_at, store_in};
 
-#[derive(Drop)]
+#[derive(Clone, Copy)]
 pub enum Word {
     Is(u64),
     Unreadable,

@@ -1,4 +1,6 @@
 // The MMU's published calls. Each tests that the state is fit, and refuses or goes on to the core.
+#![tactic(auto)]
+
 ghost use Rattle.std.specs.Prelude.{◌≡◌, true};
 ghost use Rattle.scheme.specs.Scheme.{valid_of};
 ghost use Rattle.state.specs.State.{state_new, with_scheme, with_tlb};
@@ -12,7 +14,7 @@ use tlb::Tlb;
 use walk::Access;
 
 // A call that changes the state: whether it was granted, and the state.
-#[derive(Drop)]
+#[derive(Clone, Copy)]
 pub struct Kept {
     pub said: Said,
     pub mmu: Mmu,

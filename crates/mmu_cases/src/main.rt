@@ -1,6 +1,8 @@
 // The MMU's calls, as a script asks for them: victims of each policy, what the TLB holds and gives up, schemes, switches, refusals. The first
 // lines of stdin say what its letters stand for. The bought Rust was run on the same calls where none is refused, and stdout holds its
 // answers; refusals and the words asked for are document 01's.
+#![tactic(auto)]
+
 use mmu::Kept;
 use script::Step;
 use state::Mmu;

@@ -1,4 +1,6 @@
 // What the test programs print of the MMU: an access and its answer, a slot of the TLB, the tallies, a granted or refused call.
+#![tactic(auto)]
+
 use access::{Answer, Outcome};
 use entry::{ReplacementPolicy, TlbConfig, TlbEntry};
 use mmu::Kept;

@@ -1,5 +1,7 @@
 // The plan of a map: its entries' ranges and words, and the room of its child tables. It touches no RAM. What asks for a valid scheme is
 // for the installer, which tests that first.
+#![tactic(auto)]
+
 ghost use Rattle.std.specs.Prelude.{◌≡◌, cond, ◌≤◌, ◌<◌, ◌+◌, ◌^◌};
 ghost use Rattle.plan.specs.Map.{flags_of, plan_of, shift, table_bytes, slot_bytes, pointer_word};
 ghost use Rattle.plan.specs.Levels.{width_at, below, base_at, opens_at, leaf_at, room_at, entry_room_at};
@@ -9,13 +11,13 @@ use pte::PtePerms;
 use scheme::{MapKind, PagingScheme};
 
 // What the base of an entry takes over from its parent: nothing, or the parent's base.
-#[derive(Drop)]
+#[derive(Clone, Copy)]
 pub enum MapRule {
     Relative,
     Absolute,
 }
 
-#[derive(Drop)]
+#[derive(Clone, Copy)]
 pub struct PageMapSpec {
     pub kind: MapKind,
     pub perms: PtePerms,
@@ -24,14 +26,14 @@ pub struct PageMapSpec {
 }
 
 // The virtual addresses that get the smallest pages, `end` not among them.
-#[derive(Drop)]
+#[derive(Clone, Copy)]
 pub struct Window {
     pub start: u32,
     pub end: u32,
 }
 
 // A map with its delta and its leaves' flags worked out.
-#[derive(Drop)]
+#[derive(Clone, Copy)]
 pub struct Plan {
     pub scheme: PagingScheme,
     pub window: Window,
@@ -41,7 +43,7 @@ pub struct Plan {
 }
 
 // A child table's address, and its own part of the stretch of RAM that it lies in.
-#[derive(Drop)]
+#[derive(Clone, Copy)]
 pub struct Place {
     pub pa: usize,
     pub start: usize,

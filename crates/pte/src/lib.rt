@@ -1,9 +1,11 @@
 // The fields of a page-table entry: questions on the word, by value. An entry of 32 bits is a word whose high half is clear.
+#![tactic(auto)]
+
 ghost use Rattle.std.specs.Prelude.{◌≡◌};
 ghost use Rattle.bits.specs.Bits.{bit, with_bit};
 ghost use Rattle.pte.specs.Entry.{valid_bit, perms_of, global_bit, a_place, d_place, high_bits, leaf_of, ppn_of};
 
-#[derive(Drop)]
+#[derive(Clone, Copy)]
 pub struct PtePerms {
     pub r: bool,
     pub w: bool,
@@ -11,7 +13,7 @@ pub struct PtePerms {
     pub u: bool,
 }
 
-#[derive(Drop)]
+#[derive(Clone, Copy)]
 pub struct Pte {
     pub raw: u64,
 }

@@ -1,4 +1,6 @@
 // Runs stored bundles, one after another: reads a little-endian u32 length and that many bytes, writes what `run` answers, and goes on.
+#![tactic(auto)]
+
 use libc::{STDIN_FILENO, STDOUT_FILENO};
 use memory::Word;
 use run::Ran;

@@ -1,4 +1,6 @@
 // The program over slices: reads a bundle, sets up the MMU, and runs what was read if the buffers are long enough.
+#![tactic(auto)]
+
 ghost use Rattle.std.specs.Prelude.{◌≡◌, ◌≤◌, length};
 ghost use Rattle.bundle_run.specs.Parts.{room_of};
 ghost use Rattle.run.specs.Run.{first_of, too_short, output_of, end_ram_of, ran_of, ran_mmu, ran_buffer, WroteWithin};
@@ -7,14 +9,14 @@ use scheme::Said;
 use state::Mmu;
 
 // How many bytes of output were put, or that a buffer is too short.
-#[derive(Drop)]
+#[derive(Clone, Copy)]
 pub enum Ran {
     Wrote(usize),
     TooShort,
 }
 
 // The same, and the state that the run leaves.
-#[derive(Drop)]
+#[derive(Clone, Copy)]
 pub struct RunKept {
     pub said: Ran,
     pub mmu: Mmu,

@@ -1,6 +1,6 @@
 pub mod Widths
 pub mod Levels
 pub mod Classes
-pub mod Asked
+pub mod Answered
 pub mod Pack
 pub mod Raise

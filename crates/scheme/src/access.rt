@@ -2,14 +2,14 @@
 ghost use Rattle.std.specs.Prelude.{◌≡◌};
 ghost use Rattle.scheme.specs.Access.{cause_of};
 
-#[derive(Drop)]
+#[derive(Clone, Copy)]
 pub enum AccessType {
     Fetch,
     Load,
     Store,
 }
 
-#[derive(Drop)]
+#[derive(Clone, Copy)]
 pub enum PrivMode {
     U,
     S,

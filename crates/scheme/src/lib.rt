@@ -1,5 +1,7 @@
 // Paging schemes of a 32-bit address, and Sv39: a page offset width, and one to four index widths, top first. Beside them stand the
 // small types that every crate above shares: refusals, satp, the kind of a map, accesses.
+#![tactic(auto)]
+
 ghost use Rattle.std.specs.Prelude.{◌≡◌, true, ◌+◌, ◌≤◌, take, drop};
 ghost use Rattle.scheme.specs.Scheme.{total, ok_widths, levels_of, widths_of, total_bits, valid_of, known_level, sv32_scheme};
 ghost use Rattle.scheme.specs.Scheme.{shift_of, shift_at, page_bytes_at, entries_at, root_pa, is_sv39, sv39_scheme, bought_of, format_of};
@@ -17,7 +19,7 @@ pub use refusal::{Asked, Refusal, Said};
 pub use satp::{Satp, SatpMode, make_satp, make_satp39};
 
 // `level_bits` holds `levels` widths; what stands behind them is not looked at.
-#[derive(Drop)]
+#[derive(Clone, Copy)]
 pub struct PagingScheme {
     pub offset_bits: u8,
     pub level_bits: [u8; 4],
@@ -27,7 +29,7 @@ pub struct PagingScheme {
 // What may differ between the schemes' tables and registers: an entry's bytes; the bits that a physical address is kept to; the virtual
 // address's top, whose bits from `top` on are all clear, or are `ones`; and satp's fields, the PPN below the ASID, and the mode's number
 // that turns translation on.
-#[derive(Drop)]
+#[derive(Clone, Copy)]
 pub struct Format {
     pub bytes: u8,
     pub space: u8,
@@ -41,7 +43,7 @@ pub struct Format {
 }
 
 // The page classes of a scheme in ascending order, `count` of them, and 0 behind.
-#[derive(Drop)]
+#[derive(Clone, Copy)]
 pub struct LeafMasks {
     pub masks: [u8; 4],
     pub count: u8,

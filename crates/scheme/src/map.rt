@@ -2,7 +2,7 @@
 ghost use Rattle.std.specs.Prelude.{◌≡◌};
 ghost use Rattle.scheme.specs.Map.{delta, delta_of};
 
-#[derive(Drop)]
+#[derive(Clone, Copy)]
 pub enum MapKind {
     Identity,
     Offset(i32),

@@ -3,7 +3,7 @@ ghost use Rattle.std.specs.Prelude.{◌≡◌};
 ghost use Rattle.scheme.specs.Refusals.{number_of};
 
 // Why a call is refused.
-#[derive(Drop)]
+#[derive(Clone, Copy)]
 pub enum Refusal {
     BadScheme,
     TooManyEntries,
@@ -17,14 +17,14 @@ pub enum Refusal {
 }
 
 // A number that was asked for, or the refusal.
-#[derive(Drop)]
+#[derive(Clone, Copy)]
 pub enum Asked {
     Is(u64),
     Refused(Refusal),
 }
 
 // Whether a call was granted. An answer that is an array has it beside the array, since an enum holds none.
-#[derive(Drop)]
+#[derive(Clone, Copy)]
 pub enum Said {
     Granted,
     Refused(Refusal),

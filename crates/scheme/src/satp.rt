@@ -4,14 +4,14 @@ ghost use Rattle.scheme.specs.Scheme.{sv32, sv39};
 ghost use Rattle.scheme.specs.Satp.{satp_with, mode_named, satp_in};
 
 // Bare; on, by the scheme's own number; or a number that is neither.
-#[derive(Drop)]
+#[derive(Clone, Copy)]
 pub enum SatpMode {
     Bare,
     Paged,
     Neither,
 }
 
-#[derive(Drop)]
+#[derive(Clone, Copy)]
 pub struct Satp {
     pub raw: u64,
 }

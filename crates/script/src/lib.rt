@@ -1,12 +1,14 @@
 // Reads the test programs' scripts from standard input, so that a case is data and asks for no proof. A line has 80 bytes, the line end among
 // them: a letter that says what to do, four columns for a hexadecimal number each, in which a blank counts as 0, and a comment. A column has
 // nine bytes, after a capital letter eighteen: such a line is of a 64-bit board.
+#![tactic(auto)]
+
 ghost use Rattle.std.specs.Prelude.{◌+◌, ◌≤◌};
 
 use libc::STDIN_FILENO;
 
 // What a line asks for: its letter, in lower case, whether it was a capital, and its numbers.
-#[derive(Drop)]
+#[derive(Clone, Copy)]
 pub struct Step {
     pub op: u8,
     pub wide: bool,
@@ -17,7 +19,7 @@ pub struct Step {
 }
 
 // A number that was read, and whether its column held nothing else.
-#[derive(Drop)]
+#[derive(Clone, Copy)]
 struct Number {
     n: u64,
     good: bool,

@@ -1,4 +1,6 @@
 // One access on a fit state: what the TLB has to say of it, and the walk where it has nothing to say.
+#![tactic(auto)]
+
 ghost use Rattle.std.specs.Prelude.{◌≡◌, cond, ◌<◌};
 ghost use Rattle.scheme.specs.Satp.{asid_of};
 ghost use Rattle.scheme.specs.Scheme.{format_of};

@@ -1,4 +1,6 @@
 // A session on one MMU: what it is set up with, and what happens in it.
+#![tactic(auto)]
+
 ghost use Rattle.std.specs.Prelude.{◌≡◌};
 ghost use Rattle.entry.specs.Geometry.{default_config};
 ghost use Rattle.state.specs.State.{state_new};
@@ -12,7 +14,7 @@ use state::Mmu;
 use walk::Access;
 
 // What stays as it is while a session runs; the TLB's configuration is not part of it.
-#[derive(Drop)]
+#[derive(Clone, Copy)]
 pub struct Settings {
     pub scheme: PagingScheme,
     pub enabled: bool,
@@ -22,7 +24,7 @@ pub struct Settings {
 }
 
 // What may happen.
-#[derive(Drop)]
+#[derive(Clone, Copy)]
 pub enum Event {
     Translate(Access),
     Flush,

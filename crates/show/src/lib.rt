@@ -1,4 +1,6 @@
 // What the test programs print with: words of text, numbers and line ends on standard output.
+#![tactic(auto)]
+
 pub fn text(s: &[u8]) {
     io::write_all(1, s);
 }

@@ -1,17 +1,19 @@
 // Searches and changes over the TLB's array of slots: each has one loop, over the slots of a set or over the first n.
+#![tactic(auto)]
+
 ghost use Rattle.std.specs.Prelude.{◌≡◌, ◌+◌, ◌≤◌, ◌<◌};
 ghost use Rattle.entry.specs.Entry.{cleared_of};
 ghost use Rattle.slots.specs.Slots.{wanted_of, first_in, best_in, quiet_in, clock_from, map_in, classes_fit};
 
 // Where in the array, if anywhere.
-#[derive(Drop)]
+#[derive(Clone, Copy)]
 pub enum Slot {
     At(usize),
     Nothing,
 }
 
 // The slot that the clock takes, by its place in the set, and the slots as its hand leaves them.
-#[derive(Drop)]
+#[derive(Clone, Copy)]
 pub struct Swept {
     pub at: usize,
     pub entries: [entry::TlbEntry; 128],

@@ -1,11 +1,13 @@
 // The MMU's state, and which states are fit.
+#![tactic(auto)]
+
 ghost use Rattle.std.specs.Prelude.{◌≡◌, ◌≤◌, take};
 ghost use Rattle.state.specs.State.{alike, fit_of};
 
 use scheme::{PagingScheme, Satp};
 use tlb::Tlb;
 
-#[derive(Drop)]
+#[derive(Clone, Copy)]
 pub struct Mmu {
     pub tlb: Tlb,
     pub scheme: PagingScheme,

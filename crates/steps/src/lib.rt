@@ -1,4 +1,6 @@
 // Runs the accesses of a bundle, one after another: each changes the MMU and its RAM, and puts a line.
+#![tactic(auto)]
+
 ghost use Rattle.std.specs.Prelude.{◌≡◌, ◌+◌, ◌*◌, ◌≤◌, length};
 ghost use Rattle.session.specs.Session.{step_mmu, step_ram, end_mmu, end_ram};
 ghost use Rattle.writer.specs.Put.{Put};
@@ -8,7 +10,7 @@ use session::Event;
 use state::Mmu;
 
 // The state after some records, and the place after their lines.
-#[derive(Drop)]
+#[derive(Clone, Copy)]
 pub struct Stepped {
     pub mmu: Mmu,
     pub at: usize,

@@ -1,4 +1,6 @@
 // What the test programs print of walks: who asks, where the descent and the judgement end, and the answer.
+#![tactic(auto)]
+
 use memory::Word;
 use scheme::{AccessType, PagingScheme, PrivMode};
 use walk::{Access, Reply, Verdict, Walked};

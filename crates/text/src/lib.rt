@@ -1,4 +1,6 @@
 // The program's lines but for those of accesses, put into a lent buffer: each function writes at `at` and answers the place after its line.
+#![tactic(auto)]
+
 ghost use Rattle.std.specs.Prelude.{◌+◌, ◌≤◌, length};
 ghost use Rattle.writer.specs.Put.{Put};
 ghost use Rattle.text.specs.Lines.{flush_line, flush_at_line, tallies_line, refused_line};

@@ -1,5 +1,7 @@
 // What only the benchmark links: a list of accesses and flushes on a state's image, with each access through the host's call, and the same by
 // value. It is no part of the published library. The state goes by value from one record to the next, and is lent by a local at each access.
+#![tactic(auto)]
+
 ghost use Rattle.std.specs.Prelude.{◌≡◌, ◌*◌, ◌≤◌, length};
 ghost use Rattle.session.specs.Session.{step_mmu, step_ram, end_mmu, end_ram};
 ghost use Rattle.steps.specs.Steps.{events_from};

@@ -1,9 +1,11 @@
 // The TLB's state: how it starts, the scheme and the configuration it takes over, and whether it is fit.
+#![tactic(auto)]
+
 ghost use Rattle.std.specs.Prelude.{◌≡◌, cond, leb, ◌≤◌};
 ghost use Rattle.entry.specs.Geometry.{entries_for};
 ghost use Rattle.tlb.specs.State.{tlb_new, tlb_set_scheme, tlb_reconfigure, tlb_fits};
 
-#[derive(Drop)]
+#[derive(Clone, Copy)]
 pub struct TlbStats {
     pub hits: u64,
     pub misses: u64,
@@ -13,7 +15,7 @@ pub struct TlbStats {
 
 // The first `count` slots are the entries, `sets` rows of the ways; the rest of the array is never read. `clock_hands` has one hand for
 // each set. `superpage_masks` has the page classes to probe, `mask_count` of them.
-#[derive(Drop)]
+#[derive(Clone, Copy)]
 pub struct Tlb {
     pub entries: [entry::TlbEntry; 128],
     pub clock_hands: [u8; 128],
@@ -28,13 +30,13 @@ pub struct Tlb {
 }
 
 // What a probe finds: the entry as it now stands, or nothing.
-#[derive(Drop)]
+#[derive(Clone, Copy)]
 pub enum Lookup {
     Found(entry::TlbEntry),
     Absent,
 }
 
-#[derive(Drop)]
+#[derive(Clone, Copy)]
 pub struct Probed {
     pub lookup: Lookup,
     pub tlb: Tlb,

@@ -1,4 +1,6 @@
 // An install into the TLB: the slot that answers for the page, a free one, or the policy's victim. The state goes in by value and comes back.
+#![tactic(auto)]
+
 ghost use Rattle.std.specs.Prelude.{◌≡◌, ◌+◌, ◌<◌, ◌≤◌};
 ghost use Rattle.tlb.specs.Cache.{store_at, evicted, clock_in, replace_in, install_new};
 ghost use Rattle.tlb.specs.State.{Geo, cache_of, with_cache, tlb_install};
@@ -7,7 +9,7 @@ ghost use Rattle.tlb_install.specs.Victim.{victim_with};
 use tlb::Tlb;
 
 // The slot to give up, and the state after looking for it.
-#[derive(Drop)]
+#[derive(Clone, Copy)]
 struct Victim {
     pub at: usize,
     pub tlb: Tlb,

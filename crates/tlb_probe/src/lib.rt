@@ -1,4 +1,6 @@
 // A probe of the TLB and its flushes: both visit the sets of the page classes in turn. The state goes in by value and comes back, the answer first.
+#![tactic(auto)]
+
 ghost use Rattle.std.specs.Prelude.{◌≡◌, ◌+◌, ◌<◌, ◌≤◌};
 ghost use Rattle.entry.specs.Entry.{cleared_of};
 ghost use Rattle.slots.specs.Slots.{map_in};

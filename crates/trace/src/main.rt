@@ -1,4 +1,6 @@
 // Reads a bundle on standard input, to its end or one byte past the longest good one, and writes its output.
+#![tactic(auto)]
+
 use libc::{STDIN_FILENO, STDOUT_FILENO};
 use run::Ran;
 

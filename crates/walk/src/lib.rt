@@ -1,4 +1,6 @@
 // The walk of an access: the descent, then the judgement of its leaf, then the marks.
+#![tactic(auto)]
+
 ghost use Rattle.std.specs.Prelude.{◌≡◌, true};
 ghost use Rattle.memory.specs.Word.{readable};
 ghost use Rattle.scheme.specs.Scheme.{valid_of, format_of, Modest};
@@ -11,7 +13,7 @@ use scheme::{AccessType, Format, PagingScheme, PrivMode, Refusal};
 use walker::{Descent, End, Reason};
 
 // Who asks: the address, the kind of access and the privilege that goes with it.
-#[derive(Drop)]
+#[derive(Clone, Copy)]
 pub struct Access {
     pub vaddr: u64,
     pub kind: AccessType,
@@ -19,7 +21,7 @@ pub struct Access {
 }
 
 // A leaf's word, where it stands, and the shift and level at which it was met.
-#[derive(Drop)]
+#[derive(Clone, Copy)]
 pub struct LeafAt {
     pub raw: u64,
     pub at: u64,
@@ -28,14 +30,14 @@ pub struct LeafAt {
 }
 
 // Where a walk ends: at a page that the access may use, or at a fault with its reason and level.
-#[derive(Drop)]
+#[derive(Clone, Copy)]
 pub enum Verdict {
     Page(LeafAt),
     Fault(Reason, u8),
 }
 
 // What a walk gives: the address, the frame, the page's size in bits, its rights, and the level of the leaf.
-#[derive(Drop)]
+#[derive(Clone, Copy)]
 pub struct WalkResult {
     pub paddr: u64,
     pub ppn: u64,
@@ -45,27 +47,27 @@ pub struct WalkResult {
     pub leaf_level: u8,
 }
 
-#[derive(Drop)]
+#[derive(Clone, Copy)]
 pub struct PageFault {
     pub cause: u32,
     pub vaddr: u64,
 }
 
-#[derive(Drop)]
+#[derive(Clone, Copy)]
 pub enum Walked {
     Ok(WalkResult),
     Err(PageFault),
 }
 
 // A walk's answer, and how many words it asked for.
-#[derive(Drop)]
+#[derive(Clone, Copy)]
 pub struct WalkAnswer {
     pub words: u32,
     pub answer: Walked,
 }
 
 // What a walk on any scheme comes to. A refusal asks for no word.
-#[derive(Drop)]
+#[derive(Clone, Copy)]
 pub enum Reply {
     Done(WalkAnswer),
     Refused(Refusal),

@@ -1,11 +1,13 @@
 // Walks, as a script asks for them: each check failing in its order, leaves at every level, the wrap at 2^32, machine mode, and marks written
 // only if missing. The first lines of stdin say what its letters stand for. The bought Rust was run on the same walks where none is refused,
 // and stdout holds its answers; refusals, the words asked for and the reasons of faults are document 01's.
+#![tactic(auto)]
+
 use scheme::PagingScheme;
 use script::Step;
 
 // What walks are made under: the scheme, the root table's frame, and how many bytes of RAM there are.
-#[derive(Drop)]
+#[derive(Clone, Copy)]
 struct Setting {
     scheme: PagingScheme,
     root: u64,

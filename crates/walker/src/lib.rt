@@ -1,4 +1,6 @@
 // The descent of a page-table walk over a scheme of one to four levels. It only reads, and asks nothing about who asks.
+#![tactic(auto)]
+
 ghost use Rattle.std.specs.Prelude.{◌≡◌, true, ◌-◌, ◌%◌, ◌^◌, ◌<◌, ◌≤◌, eqb};
 ghost use Rattle.scheme.specs.Scheme.{valid_of, widths_of, total_bits, Modest};
 ghost use Rattle.pte.specs.Entry.{reserved};
@@ -10,7 +12,7 @@ use pte::{Pte, PtePerms};
 use scheme::{Format, PagingScheme, Refusal};
 
 // Why a walk faults: a descent stops for one of the first five, or of the last two.
-#[derive(Drop)]
+#[derive(Clone, Copy)]
 pub enum Reason {
     Unreadable,
     Invalid,
@@ -24,7 +26,7 @@ pub enum Reason {
 }
 
 // What an entry is: no use, the next table's frame, or a leaf, its word and its address.
-#[derive(Drop)]
+#[derive(Clone, Copy)]
 pub enum Met {
     Bad(Reason),
     Table(u64),
@@ -32,21 +34,21 @@ pub enum Met {
 }
 
 // Where a descent ends: at an aligned leaf, its word and its address, or nowhere.
-#[derive(Drop)]
+#[derive(Clone, Copy)]
 pub enum End {
     Page(u64, u64),
     Stop(Reason),
 }
 
 // What a search for an address answers.
-#[derive(Drop)]
+#[derive(Clone, Copy)]
 pub enum Found {
     At(Descent),
     Refused(Refusal),
 }
 
 // The end, with the shift and the level where it stands: all addresses alike from the shift up end there.
-#[derive(Drop)]
+#[derive(Clone, Copy)]
 pub struct Descent {
     pub end: End,
     pub shift: u32,

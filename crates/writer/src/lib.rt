@@ -1,4 +1,6 @@
 // Numbers and words as text, put into a lent buffer: each function writes at `at` and answers the place after what it wrote.
+#![tactic(auto)]
+
 ghost use Rattle.std.specs.Prelude.{[], ◌∷◌, ◌≡◌, ◌+◌, ◌≤◌, ◌<◌, length};
 ghost use Rattle.writer.specs.Digits.{glyph, hex_of, decimal_of, told};
 ghost use Rattle.writer.specs.Put.{Put};

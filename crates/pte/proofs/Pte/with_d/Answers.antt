@@ -1,0 +1,5 @@
+use Rattle.bits.proofs.Flags.{set_bit}
+use Rattle.pte.proofs.Pte.with_d.Goals as goal
+
+pub returns : goal.returns
+returns c = set_bit 7 c.args.self.raw

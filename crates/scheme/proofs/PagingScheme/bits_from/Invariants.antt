@@ -1,0 +1,14 @@
+-- `bits_from`: the sum so far and the widths that are left come to what is asked for, from the start to the end.
+use Prim.Native.Nat.{◌≤◌, ◌+◌, ◌*◌, ◌-◌}
+use mathlib.Core.Path.{◌≡◌}
+use lib.ListN.{take, drop}
+use Rattle.scheme.specs.Scheme.{total, widths_of}
+use Rattle.scheme.proofs.PagingScheme.bits_from.Given as goal
+
+abbrev pub invariant-loop-i : goal.invariant-loop-i
+invariant-loop-i l =
+    (l.sum ≤ 255 + 255 * l.i)
+    × (l.sum + total (drop l.i (take l.n l.self.level_bits)) ≡ l.self.offset_bits + total (drop l.start (widths_of l.self)))
+
+abbrev pub decreases-loop-i : goal.decreases-loop-i
+decreases-loop-i l = l.n - l.i

@@ -1,0 +1,24 @@
+-- `MapKind::delta_bytes`: each arm is its clause; the count passes to `mib_bytes` by its bits.
+use mathlib.Core.Path.{ap, ◌∙◌}
+use mir.Syntax.{w32}
+use mir.Facts.{to_z-of_z}
+use borrow.Author.Rules.{rules}
+use Rattle.scheme.specs.Map.{delta}
+use Rattle.scheme.proofs.map.MapKind.delta_bytes.Goals as goal
+
+pub enum_told-1 : goal.enum_told-1
+enum_told-1 c = search rules
+
+pub enum_known-self : goal.enum_known-self
+enum_known-self c = search rules
+
+pub mib_bytes-requires : goal.mib_bytes-requires
+mib_bytes-requires c = search rules
+
+pub returns-in-Identity : goal.returns-in-Identity
+returns-in-Identity c = search rules
+
+pub returns-in-Offset : goal.returns-in-Offset
+returns-in-Offset c =
+    let bits = to_z-of_z {w = w32} {z = c.in-Offset.mib} record { sfits = c.known_told-1.given.0.1 } in
+    rw c.in-Offset.is (c.mib_bytes.ensures ∙ ap delta bits)

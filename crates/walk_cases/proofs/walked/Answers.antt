@@ -1,0 +1,26 @@
+-- `walk_cases::walked` is safe: the part of RAM that it lends is as long as the setting says.
+use mathlib.Core.Path.{sym}
+use lib.Seq.{length-take-le}
+use borrow.Author.Rules.{rules}
+use Rattle.walk_cases.proofs.walked.Goals as goal
+
+pub slice_bounds-walked-end : goal.slice_bounds-walked-end
+slice_bounds-walked-end c = search rules
+
+pub slice_bounds-walked-end-then-n-ram : goal.slice_bounds-walked-end-then-n-ram
+slice_bounds-walked-end-then-n-ram c = sym (length-take-le _ _ (slice-relend-prefix-walked (goal.at.slice_bounds-walked-end-then-n-ram c).Then-n-ram))
+
+pub asked-requires : goal.asked-requires
+asked-requires c = search rules
+
+pub walked-requires : goal.walked-requires
+walked-requires c = search rules
+
+pub shape_of-ram : goal.shape_of-ram
+shape_of-ram c = search rules
+
+pub returns-then-n-ram : goal.returns-then-n-ram
+returns-then-n-ram c = search rules
+
+pub returns-else-n-ram : goal.returns-else-n-ram
+returns-else-n-ram c = search rules

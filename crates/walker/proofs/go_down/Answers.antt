@@ -1,0 +1,124 @@
+-- `go_down`: after each level what is left to seek is what was asked for.
+use Prim.Native.Nat.{ℕ, ◌+◌, ◌-◌, ◌≤◌}
+use mathlib.Core.Path.{◌≡◌, refl, sym, ap, ◌∙◌}
+use mathlib.Core.Bool.{true}
+use mathlib.Core.List.{List, ◌∷◌}
+use native.Mathlib.Omega.{arith}
+use borrow.Author.Rules.{rules}
+use lib.ListN.{length, get_or, drop}
+use Rattle.scheme.specs.Scheme.{total, ok_widths, widths_of}
+use Rattle.scheme.proofs.Widths.{Valid, valid, ok_high, ok_rest, rest_cons, rest_end, total_cons, total_end}
+use Rattle.walker.specs.Descent.{seek, follow}
+use Rattle.walker.specs.declared.Met.{Met}
+use Rattle.walker.specs.declared.Descent.{Descent}
+use Rattle.walker.proofs.Down.{seek_cons, seek_none}
+use Rattle.walker.proofs.go_down.Goals as goal
+
+-- what validity gives, and that the array holds every used width
+known : (c : goal.Start) → Valid c.args.scheme
+known c = valid _ c.requires.0
+
+long : (c : goal.Start) → c.args.scheme.levels ≤ length c.args.scheme.level_bits
+long c = let e : length c.args.scheme.level_bits ≡ 4 = search rules in omega (arith, (known c).four)
+
+abbrev width : (c : goal.In-loop-level) → ℕ
+width c = get_or c.args.scheme.level_bits c.loop-level.level 0
+
+abbrev below : (c : goal.In-loop-level) → List ℕ
+below c = drop (c.loop-level.level + 1) (widths_of c.args.scheme)
+
+head : (c : goal.In-loop-level) → drop c.loop-level.level (widths_of c.args.scheme) ≡ (width c) ∷ (below c)
+head c = rest_cons c.args.scheme.level_bits c.args.scheme.levels (long (goal.at.overflow_cast-i c).Start) c.loop-level.level c.loop-level-test.true
+
+ok : (c : goal.In-loop-level) → ok_widths ((width c) ∷ (below c)) ≡ true
+ok c = ap ok_widths (sym (head c)) ∙ c.loop-level.invariant.3
+
+shift_is : (c : goal.In-loop-level) → c.loop-level.shift ≡ c.args.scheme.offset_bits + ((width c) + total (below c))
+shift_is c = c.loop-level.invariant.2 ∙ ap (λ (n : ℕ). c.args.scheme.offset_bits + n) (total_cons c.args.scheme.level_bits c.args.scheme.levels (long (goal.at.overflow_cast-i c).Start) c.loop-level.level c.loop-level-test.true)
+
+-- the walk down some widths, from a level and a table
+abbrev walk_from : (c : goal.In-loop-level) → List ℕ → ℕ → ℕ → Descent
+walk_from c = seek c.args.f c.args.ram.now c.args.vaddr c.args.scheme.offset_bits
+
+-- where the walk ends, if m is what the turn meets
+abbrev ends : (c : goal.In-loop-level) → Met → Descent
+ends c m = follow m (c.loop-level.shift - (width c)) c.loop-level.level ((walk_from c) (below c) (c.loop-level.level + 1))
+
+next_shift : (c : goal.In-loop-level) → c.loop-level.shift - (width c) ≡ c.args.scheme.offset_bits + total (below c)
+next_shift c = omega (arith, (shift_is c))
+
+turn : (c : goal.After-met_at-met) → walk_from (goal.at.HERE c).In-loop-level (widths_of c.args.scheme) 0 c.args.root ≡ ends (goal.at.HERE c).In-loop-level c.met_at-met.result
+turn c =
+    sym c.loop-level.invariant.4
+    ∙ ap (λ (ws : List ℕ). walk_from (goal.at.HERE c).In-loop-level ws c.loop-level.level c.loop-level.table) (head (goal.at.HERE c).In-loop-level)
+    ∙ seek_cons _ _ _ _ (width (goal.at.HERE c).In-loop-level) (below (goal.at.HERE c).In-loop-level) _ _ _ _ _ (next_shift (goal.at.HERE c).In-loop-level) c.entry_at.ensures c.met_at-met.ensures
+
+pub loop-level-init : goal.loop-level-init
+loop-level-init c =
+    let v = known (goal.at.loop-level-init c).Start in
+    (search rules, omega (arith, c.requires.2, v.most), c.requires.2, v.ok, refl)
+
+pub overflow_cast-i : goal.overflow_cast-i
+overflow_cast-i c = search rules
+
+pub bounds-scheme-i : goal.bounds-scheme-i
+bounds-scheme-i c = omega (arith, (known (goal.at.bounds-scheme-i c).Start).four)
+
+pub overflow_cast-width : goal.overflow_cast-width
+overflow_cast-width c = search rules
+
+pub overflow_sub-shift : goal.overflow_sub-shift
+overflow_sub-shift c = omega (arith, shift_is (goal.at.overflow_sub-shift c).In-loop-level)
+
+pub entry_at-requires : goal.entry_at-requires
+entry_at-requires c = (c.requires.1, omega arith, ok_high _ _ (ok (goal.at.entry_at-requires c).In-loop-level))
+
+pub met_at-met-requires : goal.met_at-met-requires
+met_at-met-requires c = (c.requires.1, omega (arith, shift_is (goal.at.met_at-met-requires c).In-loop-level, (known (goal.at.met_at-met-requires c).Start).offset_low))
+
+pub enum_known-met : goal.enum_known-met
+enum_known-met c = search rules
+
+pub returns-in-Bad : goal.returns-in-Bad
+unfolding follow
+returns-in-Bad c = sym (turn (goal.at.returns-in-Bad c).After-met_at-met ∙ ap (ends (goal.at.returns-in-Bad c).In-loop-level) c.in-Bad.is)
+
+pub enum_known-met-in-Leaf-1 : goal.enum_known-met-in-Leaf-1
+enum_known-met-in-Leaf-1 c = search rules
+
+pub returns-in-Leaf : goal.returns-in-Leaf
+unfolding follow
+returns-in-Leaf c = sym (turn (goal.at.returns-in-Leaf c).After-met_at-met ∙ ap (ends (goal.at.returns-in-Leaf c).In-loop-level) c.in-Leaf.is)
+
+pub enum_known-met-in-Table-1 : goal.enum_known-met-in-Table-1
+enum_known-met-in-Table-1 c = search rules
+
+pub overflow_add-level : goal.overflow_add-level
+overflow_add-level c = search rules
+
+pub loop-level-smaller : goal.loop-level-smaller
+loop-level-smaller c = search rules
+
+pub loop-level-preserved : goal.loop-level-preserved
+unfolding follow
+loop-level-preserved c = (
+  search rules,
+  omega (arith, shift_is (goal.at.loop-level-preserved c).In-loop-level),
+  next_shift (goal.at.loop-level-preserved c).In-loop-level,
+  ok_rest _ _ (ok (goal.at.loop-level-preserved c).In-loop-level),
+  sym (turn (goal.at.loop-level-preserved c).After-met_at-met ∙ ap (ends (goal.at.loop-level-preserved c).In-loop-level) c.in-Table.is),
+)
+
+pub overflow_sub-last : goal.overflow_sub-last
+overflow_sub-last c = omega (arith, (known (goal.at.overflow_sub-last c).Start).some)
+
+pub returns : goal.returns
+returns c =
+    let l = c.loop-level in
+    let e : l.level ≡ c.args.scheme.levels = omega arith in
+    let k : c.args.scheme.offset_bits ≡ l.shift = omega (arith, l.invariant.2, total_end c.args.scheme.level_bits c.args.scheme.levels (long (goal.at.returns c).Start) l.level c.loop-level-test.false) in
+    sym (sym l.invariant.4
+    ∙ ap (λ (ws : List ℕ). seek c.args.f c.args.ram.now c.args.vaddr c.args.scheme.offset_bits ws l.level l.table)
+    (rest_end c.args.scheme.level_bits c.args.scheme.levels (long (goal.at.returns c).Start) l.level c.loop-level-test.false)
+    ∙ seek_none _ _ _ _ _ _
+    ∙ rw (e, k))
