@@ -4,11 +4,11 @@
 -- that it meets the contract of its shape; after it the answer is F's answer, and the local holds F's state. So the same local can be lent
 -- to one call after another.
 -- Assumes nothing.
-use Rattle.core.specs.Prelude.{◌≡◌, ℕ, List, [], ◌∷◌, length}
+use Rattle.std.specs.Prelude.{◌≡◌, ℕ, List, [], ◌∷◌, length}
 use mathlib.Core.Path.{refl, sym, ap, ◌∙◌, subst}
 use seplogic.Ra.Ura.{Ura}
-use seplogic.Ra.TreeShare.{full_share}
-use mir.Syntax.{Name, Opd as Operand, Place, Body as Code, named, call, seq}
+use base.Fraction.{full_share}
+use mir.Syntax.{Symbol, fn₀, Opd as Operand, Place, Body as Code, named, call, seq}
 use mir.Val.{Val, vptr}
 use base.Logic.{ent, sep, id⊢}
 use base.Fml.{GName, Lft, Share, ftrue, flft, fres, flent, fat}
@@ -80,7 +80,7 @@ leaves {N} {S} D r {𝓛 = 𝓛} {K = K} {Γ} l G n s v e n-is s-is k =
     s= : s ≡ D.state r
     s= = state_is_its D n s r e
 
-module _ (S N : Value) (D : Beside N S) (F : S.row.Denot → D.row.Denot) (core f : Name) where
+module _ (S N : Value) (D : Beside N S) (F : S.row.Denot → D.row.Denot) (core f : Symbol) where
   -- what `f` meets
   abbrev pub Called0 : {M : Type 1} {𝓤 : Ura M} (𝓛 : Logic 𝓤) → Contract 𝓤
   Called0 {𝓤 = 𝓤} 𝓛 = triple_of 𝓛 (Lent0.ended S N D F core).signature (closing 𝓛 (Lent0.ended S N D F core) (Lent0.clauses S N D F core 𝓤))
@@ -99,9 +99,9 @@ module _ (S N : Value) (D : Beside N S) (F : S.row.Denot → D.row.Denot) (core 
   module _ {M : Type 1} {𝓤 : Ura M} {𝓛 : Logic 𝓤} {K : Type 0} {Γ : List (Item 𝓤)} {E : Env 𝓤 𝓛.H} {C : Calls 𝓤 𝓛.H} {Λ : Loops 𝓤 𝓛.H} {q : Post 𝓤 𝓛.H} {d : Place} {xs : List Operand} {rest : Code} where
     open 𝓛 use {H}
 
-    pub lends0 : K → FmC 𝓤 H 𝓛.laws C → Triple 𝓤 (C f) (Called0 𝓛) → (h : S.row.Denot) (l : ℕ) → Is S.row h (S.val h ∷ [])
+    pub lends0 : K → FmC 𝓤 H 𝓛.laws C → Triple 𝓤 (C (fn₀ f)) (Called0 𝓛) → (h : S.row.Denot) (l : ℕ) → Is S.row h (S.val h ∷ [])
         → ((i j : Item 𝓤) → Opds K 𝓛 (i ∷ j ∷ Γ) E xs (vptr l 0 ∷ [])) → Left D (F h) K 𝓛 Γ l (λ v. lands C Λ E d v rest q)
-        → Seq K 𝓛 (‵ (fat full_share S.ty l 0 (S.val h)) ∷ Γ) (runs C Λ E (seq (call f xs d) rest) q)
+        → Seq K 𝓛 (‵ (fat full_share S.ty l 0 (S.val h)) ∷ Γ) (runs C Λ E (seq (call (fn₀ f) xs d) rest) q)
     lends0 t fm known h l is os k = out t tt S h l is (λ ν γ. use2 𝓛 (raw ((Called0 𝓛).pre (to0 𝓛 h l ν γ))) (goes0 𝓛 h l ν γ) $
         calls_at t fm (Called0 𝓛) known (to0 𝓛 h l ν γ) (os _ _) (λ v.
         use1 𝓛 (later (some (λ (n : N.row.Denot). ((‵ (flft (ν ∷ []) full_share) ⊛ ‵ ftrue) ⊛ ‵ (N.row.own_val n (v ∷ []))) ⊛ raw (ensured 𝓛 (Lent0.ended S N D F core) (Lent0.clauses S N D F core 𝓤) (ν ∷ [], tt) (ref S h l γ, tt) tt n)))) (id⊢ 𝓤 _) $
@@ -111,7 +111,7 @@ module _ (S N : Value) (D : Beside N S) (F : S.row.Denot → D.row.Denot) (core 
         -- [the token and true; the last state; true; the lender's part; ..]
         split t $ move t (1 ∷ 3 ∷ []) $ drop t $ drop t $ move t (0 ∷ 2 ∷ 1 ∷ []) $ back t tt S ws.0 l ν γ (λ s-is. leaves D (F h) l (λ u. lands C Λ E d u rest q) n ws.0 v e n-is s-is k)))))))
 
-module _ (S P N : Value) (D : Beside N S) (F : S.row.Denot → P.row.Denot → D.row.Denot) (core f : Name) where
+module _ (S P N : Value) (D : Beside N S) (F : S.row.Denot → P.row.Denot → D.row.Denot) (core f : Symbol) where
   abbrev pub Called1 : {M : Type 1} {𝓤 : Ura M} (𝓛 : Logic 𝓤) → Contract 𝓤
   Called1 {𝓤 = 𝓤} 𝓛 = triple_of 𝓛 (Lent1.ended S P N D F core).signature (closing 𝓛 (Lent1.ended S P N D F core) (Lent1.clauses S P N D F core 𝓤))
 
@@ -129,9 +129,9 @@ module _ (S P N : Value) (D : Beside N S) (F : S.row.Denot → P.row.Denot → D
   module _ {M : Type 1} {𝓤 : Ura M} {𝓛 : Logic 𝓤} {K : Type 0} {Γ : List (Item 𝓤)} {E : Env 𝓤 𝓛.H} {C : Calls 𝓤 𝓛.H} {Λ : Loops 𝓤 𝓛.H} {q : Post 𝓤 𝓛.H} {d : Place} {xs : List Operand} {rest : Code} where
     open 𝓛 use {H}
 
-    pub lends1 : K → FmC 𝓤 H 𝓛.laws C → Triple 𝓤 (C f) (Called1 𝓛) → (h : S.row.Denot) (p : P.row.Denot) (l : ℕ) → Is S.row h (S.val h ∷ []) → Is P.row p (P.val p ∷ [])
+    pub lends1 : K → FmC 𝓤 H 𝓛.laws C → Triple 𝓤 (C (fn₀ f)) (Called1 𝓛) → (h : S.row.Denot) (p : P.row.Denot) (l : ℕ) → Is S.row h (S.val h ∷ []) → Is P.row p (P.val p ∷ [])
         → ((i j : Item 𝓤) → Opds K 𝓛 (i ∷ j ∷ Γ) E xs (vptr l 0 ∷ P.val p ∷ [])) → Left D (F h p) K 𝓛 Γ l (λ v. lands C Λ E d v rest q)
-        → Seq K 𝓛 (‵ (fat full_share S.ty l 0 (S.val h)) ∷ Γ) (runs C Λ E (seq (call f xs d) rest) q)
+        → Seq K 𝓛 (‵ (fat full_share S.ty l 0 (S.val h)) ∷ Γ) (runs C Λ E (seq (call (fn₀ f) xs d) rest) q)
     lends1 t fm known h p l is p-is os k = out t tt S h l is (λ ν γ. use2 𝓛 (raw ((Called1 𝓛).pre (to1 𝓛 h p l ν γ))) (goes1 𝓛 h p l ν γ p-is) $
         calls_at t fm (Called1 𝓛) known (to1 𝓛 h p l ν γ) (os _ _) (λ v.
         use1 𝓛 (later (some (λ (n : N.row.Denot). ((‵ (flft (ν ∷ []) full_share) ⊛ ‵ ftrue) ⊛ ‵ (N.row.own_val n (v ∷ []))) ⊛ raw (ensured 𝓛 (Lent1.ended S P N D F core) (Lent1.clauses S P N D F core 𝓤) (ν ∷ [], tt) (ref S h l γ, (p, tt)) tt n)))) (id⊢ 𝓤 _) $
@@ -142,7 +142,7 @@ module _ (S P N : Value) (D : Beside N S) (F : S.row.Denot → P.row.Denot → D
         split t $ move t (1 ∷ 3 ∷ []) $ drop t $ drop t $ move t (0 ∷ 2 ∷ 1 ∷ []) $ back t tt S ws.0 l ν γ (λ s-is. leaves D (F h p) l (λ u. lands C Λ E d u rest q) n ws.0 v e n-is s-is k)))))))
 
 -- RAM is passed on for good, at its own lifetime, share and ghost name: what is left is that it ends at G
-module _ (S P N : Value) (D : Beside N S) (F : Of S P N D D.row.Denot) (G : Of S P N D (List ℕ)) (core f : Name) where
+module _ (S P N : Value) (D : Beside N S) (F : Of S P N D D.row.Denot) (G : Of S P N D (List ℕ)) (core f : Symbol) where
   abbrev pub CalledRam1 : {M : Type 1} {𝓤 : Ura M} (𝓛 : Logic 𝓤) → Contract 𝓤
   CalledRam1 {𝓤 = 𝓤} 𝓛 = triple_of 𝓛 (LentRam1.ended S P N D F G core).signature (closing 𝓛 (LentRam1.ended S P N D F G core) (LentRam1.clauses S P N D F G core 𝓤))
 
@@ -163,10 +163,10 @@ module _ (S P N : Value) (D : Beside N S) (F : Of S P N D D.row.Denot) (G : Of S
   module _ {M : Type 1} {𝓤 : Ura M} {𝓛 : Logic 𝓤} {K : Type 0} {Γ : List (Item 𝓤)} {E : Env 𝓤 𝓛.H} {C : Calls 𝓤 𝓛.H} {Λ : Loops 𝓤 𝓛.H} {q : Post 𝓤 𝓛.H} {d : Place} {xs : List Operand} {rest : Code} where
     open 𝓛 use {H}
 
-    pub lends_ram1 : K → FmC 𝓤 H 𝓛.laws C → Triple 𝓤 (C f) (CalledRam1 𝓛) → (h : S.row.Denot) (p : P.row.Denot) (κ : Lft) (qκ : Share) (y : MutBor (List ℕ)) (l : ℕ) → Is S.row h (S.val h ∷ []) → Is P.row p (P.val p ∷ [])
+    pub lends_ram1 : K → FmC 𝓤 H 𝓛.laws C → Triple 𝓤 (C (fn₀ f)) (CalledRam1 𝓛) → (h : S.row.Denot) (p : P.row.Denot) (κ : Lft) (qκ : Share) (y : MutBor (List ℕ)) (l : ℕ) → Is S.row h (S.val h ∷ []) → Is P.row p (P.val p ∷ [])
         → ((i j : Item 𝓤) → Opds K 𝓛 (i ∷ j ∷ Γ) E xs (vptr l 0 ∷ P.val p ∷ slice_val y.ref_ptr (length y.now) ∷ []))
         → (length (G h p y.now) ≡ length y.now → Left D (F h p y.now) K 𝓛 (‵ (flft κ qκ) ∷ ‵ (finally u8 y.ghost_name (G h p y.now)) ∷ Γ) l (λ v. lands C Λ E d v rest q))
-        → Seq K 𝓛 (‵ (fat full_share S.ty l 0 (S.val h)) ∷ ‵ (flft κ qκ) ∷ ‵ ((MutSlice (named 0) κ u8).own_val y (slice_val y.ref_ptr (length y.now) ∷ [])) ∷ Γ) (runs C Λ E (seq (call f xs d) rest) q)
+        → Seq K 𝓛 (‵ (fat full_share S.ty l 0 (S.val h)) ∷ ‵ (flft κ qκ) ∷ ‵ ((MutSlice (named 0) κ u8).own_val y (slice_val y.ref_ptr (length y.now) ∷ [])) ∷ Γ) (runs C Λ E (seq (call (fn₀ f) xs d) rest) q)
     lends_ram1 t fm known h p κ qκ y l is p-is os k = out t tt S h l is (λ ν γ. move t (3 ∷ 4 ∷ []) $ join t $ move t (1 ∷ 2 ∷ 0 ∷ []) $ use3 𝓛 (raw ((CalledRam1 𝓛).pre (to_ram1 𝓛 h p κ qκ y l ν γ))) (goes_ram1 𝓛 h p κ qκ y l ν γ p-is) $
         calls_at t fm (CalledRam1 𝓛) known (to_ram1 𝓛 h p κ qκ y l ν γ) (os _ _) (λ v.
         use1 𝓛 (later (some (λ (n : N.row.Denot). ((‵ (flft (ν ∷ []) full_share) ⊛ ‵ (flft κ qκ) ⊛ ‵ ftrue) ⊛ ‵ (N.row.own_val n (v ∷ []))) ⊛ raw (ensured 𝓛 (LentRam1.ended S P N D F G core) (LentRam1.clauses S P N D F G core 𝓤) (ν ∷ [], (κ, tt)) (ref S h l γ, (p, (y, tt))) tt n)))) (id⊢ 𝓤 _) $

@@ -3,11 +3,11 @@
 -- where the core's `f` takes both by value and returns D, a struct of the answer and the state, in that order. Of the core the law knows that
 -- its result is F of its arguments, and it says that the answer and the state that is left, as one D, are F of the state lent and of p.
 -- Assumes nothing.
-use Rattle.core.specs.Prelude.{◌≡◌, ℕ, List, [], ◌∷◌}
+use Rattle.std.specs.Prelude.{◌≡◌, ℕ, List, [], ◌∷◌}
 use mathlib.Core.Path.{refl, ap, ◌∙◌}
 use seplogic.Ra.Ura.{Ura}
-use seplogic.Ra.TreeShare.{full_share}
-use mir.Syntax.{Name, Fn, named, mut, ty_ref, local, value_local, place, deref, field, copy, rv_opd, assign, call, seq, return}
+use base.Fraction.{full_share}
+use mir.Syntax.{Symbol, fn₀, Fn, named, mut, ty_ref, local, value_local, place, deref, field, copy, rv_opd, assign, call, seq, return}
 use mir.Val.{Val, vptr}
 use base.Logic.{SProp, ent, emp, via, fst∗, snd∗, ex_e, id⊢}
 use base.Fml.{GName, Lft, Share, ftrue, flft, fobs, fbor, fat}
@@ -34,16 +34,18 @@ use denote.Triple.Walked.{says, Stays, stay_ref, stay_none, walk_of, Goes-ref, G
 use denote.Exit.{yes}
 use Rattle.lent.proofs.Value.{Value, Beside, beside_ty, typed, beside_typed, takes_out, puts_back}
 
-module _ (S P N : Value) (D : Beside N S) (F : S.row.Denot → P.row.Denot → D.row.Denot) (g : Name) where
+module _ (S P N : Value) (D : Beside N S) (F : S.row.Denot → P.row.Denot → D.row.Denot) (g : Symbol) where
   -- the function, and what is said of it
   abbrev pub function : Fn
   function = record {
     lifetimes = 1;
     outlives = [];
+    ty_params = [];
+    givens = 0;
     params = 2;
     locals = local N.ty value_local ∷ local (ty_ref (named 0) mut (pointee S.row.written)) value_local ∷ local P.ty value_local ∷ local (beside_ty D) value_local ∷ local S.ty value_local ∷ [];
     body = seq (assign (place 4 []) (rv_opd (copy (place 1 (deref S.ty ∷ [])))))
-        (seq (call g (copy (place 4 []) ∷ copy (place 2 []) ∷ []) (place 3 []))
+        (seq (call (fn₀ g) (copy (place 4 []) ∷ copy (place 2 []) ∷ []) (place 3 []))
         (seq (assign (place 1 (deref S.ty ∷ [])) (rv_opd (copy (place 3 (field 1 ∷ [])))))
         (seq (assign (place 0 []) (rv_opd (copy (place 3 (field 0 ∷ []))))) return)));
   }
@@ -105,7 +107,7 @@ module _ (S P N : Value) (D : Beside N S) (F : S.row.Denot → P.row.Denot → D
     goes_core : ent 𝓤 (sem 𝓛 (S.row.own_val h (S.val h ∷ []))) ((Core 𝓛).pre to_core)
     goes_core = qed 𝓛 (‵ (S.row.own_val h (S.val h ∷ [])) ∷ []) ∵ nothing ! $ owned ! P.row (Is P.row) (P.makes 𝓛) p _ p-is $ fjoin ! $ move ! (1 ∷ 0 ∷ []) $ fjoin ! $ nothing ! $ join ! $ frame ! $ done !
 
-    module _ (C : Calls 𝓤 H) (Λ : Loops 𝓤 H) (fm : FmC 𝓤 H 𝓛.laws C) (known : Triple 𝓤 (C g) (Core 𝓛)) where
+    module _ (C : Calls 𝓤 H) (Λ : Loops 𝓤 H) (fm : FmC 𝓤 H 𝓛.laws C) (known : Triple 𝓤 (C (fn₀ g)) (Core 𝓛)) where
       walk : ent 𝓤 (on_entry 𝓛 ended.signature (κ, tt) (q, tt) x at) (WpFn 𝓤 H C Λ function (vptr b o ∷ P.val p ∷ []) Post)
       walk =
           qed 𝓛 ((‵ (flft κ q) ⊛ ‵ ftrue) ∷ ‵ (owns (MutRef (named 0) κ S.row ∷ P.row ∷ []) x at) ∷ []) ∵ split ! $ move ! (2 ∷ []) $ fsplit ! $ fsplit3 ! $ drop ! $ move ! (0 ∷ 1 ∷ 3 ∷ []) $
@@ -134,11 +136,11 @@ module _ (S P N : Value) (D : Beside N S) (F : S.row.Denot → P.row.Denot → D
   module _ {M : Type 1} {𝓤 : Ura M} (𝓛 : Logic 𝓤) where
     open 𝓛 use {H}
 
-    walks : (C : Calls 𝓤 H) (Λ : Loops 𝓤 H) → FmC 𝓤 H 𝓛.laws C → Triple 𝓤 (C g) (Core 𝓛) → Walks 𝓛 ended stayed (WpFn 𝓤 H C Λ function) (clauses 𝓤)
+    walks : (C : Calls 𝓤 H) (Λ : Loops 𝓤 H) → FmC 𝓤 H 𝓛.laws C → Triple 𝓤 (C (fn₀ g)) (Core 𝓛) → Walks 𝓛 ended stayed (WpFn 𝓤 H C Λ function) (clauses 𝓤)
     walks C Λ fm known = walked 𝓛 ended stayed (clauses 𝓤) (WpFn 𝓤 H C Λ function) (λ κs. (mut_vals, ((λ y. P.val y ∷ []), tt))) (λ κs. (mut_Tells (named 0) κs.0 S.row, (P.tells, tt)))
         (λ κs qs bounds a _ are. via 𝓤 _ (fst∗ 𝓤 _ (emp 𝓤)) (walk 𝓛 κs.0 qs.0 a.0.ref_ptr.0 a.0.ref_ptr.1 a.0.ghost_name a.0.now a.1.0 are.1.0 C Λ fm known))
 
-    pub meets : (𝓣 : Tables 𝓤 H) → Triple 𝓤 (𝓣.C g) (Core 𝓛) → Meets 𝓛 ended.signature (WpFn 𝓤 H 𝓣.C 𝓣.Λ function) (closing 𝓛 ended (clauses 𝓤))
+    pub meets : (𝓣 : Tables 𝓤 H) → Triple 𝓤 (𝓣.C (fn₀ g)) (Core 𝓛) → Meets 𝓛 ended.signature (WpFn 𝓤 H 𝓣.C 𝓣.Λ function) (closing 𝓛 ended (clauses 𝓤))
     meets 𝓣 known =
         walk_Meets 𝓛 ended stayed (Goes-ref 𝓛 1 0 tt (plain (λ _. S.row)), (Goes-none 𝓛 1 (λ _. P.row) yes (λ κs. P.silent), tt)) (clauses 𝓤)
         (WpFn 𝓤 H 𝓣.C 𝓣.Λ function) (WpFn-mono 𝓤 H 𝓛.laws 𝓣 function) (walks 𝓣.C 𝓣.Λ (fm_of 𝓤 H 𝓛.laws 𝓣) known)

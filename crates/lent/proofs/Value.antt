@@ -5,10 +5,10 @@
 -- and the two ends of such a call on the lender's side:
 --     lies_in, lies_out    a state in a local is one that lies in memory, and back
 -- Assumes `Logic`.
-use Rattle.core.specs.Prelude.{◌≡◌, ℕ, T as Holds, List, [], ◌∷◌}
+use Rattle.std.specs.Prelude.{◌≡◌, ℕ, T as Holds, List, [], ◌∷◌}
 use mathlib.Core.Path.{refl, sym, subst}
 use seplogic.Ra.Ura.{Ura}
-use seplogic.Ra.TreeShare.{full_share}
+use base.Fraction.{full_share}
 use mir.Syntax.{Ty, Sym, ty_struct, ty_int, tcons, tnil, w64}
 use mir.Raw.{raw as raw_ty}
 use mir.Val.{Val, WT, has_ty, vint, vstruct, vnil, vcons}

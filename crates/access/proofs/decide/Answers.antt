@@ -1,6 +1,7 @@
 -- `decide`: the two cases of the test, once the entry is found.
 use Rattle.std.proofs.Common.{◌≡◌, Bool, not, ◌&&◌, sym, ap, ◌∙◌, rules}
 use Rattle.access.specs.Translate.{is_store}
+use Rattle.access.proofs.decide.Goals.{After-struct_known-1}
 use Rattle.access.proofs.decide.Goals as goal
 
 pub enum_known-found : goal.enum_known-found
@@ -13,7 +14,7 @@ pub returns-in_default : goal.returns-in_default
 returns-in_default c = search rules
 
 -- what the test says of the entry and the access
-test_is : (c : goal.After-struct_known-1) → c.before.is_IsStore.result && not c.in-Found.e.dirty ≡ is_store c.args.q.kind && not c.in-Found.e.dirty
+test_is : (c : After-struct_known-1) → c.before.is_IsStore.result && not c.in-Found.e.dirty ≡ is_store c.args.q.kind && not c.in-Found.e.dirty
 test_is c = ap (λ (b : Bool). b && not c.in-Found.e.dirty) c.before.is_IsStore.ensures
 
 pub is_store-requires : goal.is_store-requires

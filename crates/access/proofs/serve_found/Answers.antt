@@ -10,13 +10,14 @@ use Rattle.state.specs.declared.Mmu.{Mmu}
 use Rattle.access.specs.declared.Answer.{Answer}
 use Rattle.access.specs.declared.Served.{Served}
 use Rattle.access.proofs.Entries.{found_hit_lem, found_fault_lem}
+use Rattle.access.proofs.serve_found.Goals.{After-open_to, Then-permits-open_to}
 use Rattle.access.proofs.serve_found.Goals as goal
 
 abbrev served : Answer → Mmu → Served
 served a m = record { said = a; mmu = m }
 
 -- the test is the definition's
-permitted : (c : goal.After-open_to) → c.permits.result && c.open_to.result ≡ entry_permits c.args.e c.args.q
+permitted : (c : After-open_to) → c.permits.result && c.open_to.result ≡ entry_permits c.args.e c.args.q
 permitted c = ap₂ ◌&&◌ c.permits.ensures c.open_to.ensures
 
 pub permits-requires : goal.permits-requires

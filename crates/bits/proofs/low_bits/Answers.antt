@@ -5,6 +5,7 @@ use native.Mathlib.Omega.{arith}
 use lib.Pow.{pow_pos}
 use Rattle.bits.proofs.Masks.{one_shl, low_mask, whole, whole_lt}
 use borrow.Author.Rules.{rules}
+use Rattle.bits.proofs.low_bits.Goals.{Else-k-gt63}
 use Rattle.bits.proofs.low_bits.Goals as goal
 
 pub returns-then-k-gt63 : goal.returns-then-k-gt63
@@ -13,7 +14,7 @@ returns-then-k-gt63 c =
     (whole a.k c.if-k-gt63.true a.x (omega arith), whole_lt a.k c.if-k-gt63.true a.x (omega arith))
 
 -- the second way has fewer bits than the word
-few : (c : goal.Else-k-gt63) → c.args.k < 64
+few : (c : Else-k-gt63) → c.args.k < 64
 few c = omega arith
 
 pub overflow_shl-result : goal.overflow_shl-result

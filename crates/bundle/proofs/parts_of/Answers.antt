@@ -4,9 +4,10 @@ use mathlib.Core.Path.{◌∙◌}
 use Rattle.layout.proofs.Fits.{Fits, good_fits}
 use Rattle.bundle.specs.Parts.{parts_of}
 use borrow.Author.Rules.{rules}
+use Rattle.bundle.proofs.parts_of.Goals.{Start}
 use Rattle.bundle.proofs.parts_of.Goals as goal
 
-fits : (c : goal.Start) → Fits c.args.file.now
+fits : (c : Start) → Fits c.args.file.now
 fits c = good_fits _ c.requires
 
 pub config_at-config-requires : goal.config_at-config-requires

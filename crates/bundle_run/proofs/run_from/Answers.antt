@@ -7,6 +7,7 @@ use Rattle.writer.proofs.Puts.{kept}
 use Rattle.bundle_run.specs.Parts.{given_ram}
 use Rattle.bundle_run.proofs.Fronts.{front_part, front_other, between, given_length}
 use borrow.Author.Rules.{rules}
+use Rattle.bundle_run.proofs.run_from.Goals.{After-put_bytes}
 use Rattle.bundle_run.proofs.run_from.Goals as goal
 
 pub overflow_add-stop : goal.overflow_add-stop
@@ -35,7 +36,7 @@ pub shape_of-out : goal.shape_of-out
 shape_of-out c = search rules
 
 -- the buffer once the bundle's RAM is copied in
-copied : (c : goal.After-put_bytes) → c.put_bytes.new.0 ≡ sets c.args.ram.now 0 (given_ram c.args.file.now c.args.p)
+copied : (c : After-put_bytes) → c.put_bytes.new.0 ≡ sets c.args.ram.now 0 (given_ram c.args.file.now c.args.p)
 copied c =
     let a = c.args in
     c.put_bytes.ensures.bytes ∙ ap (sets a.ram.now 0) (between a.file.now a.p.ram_start a.p.ram_len)

@@ -6,10 +6,11 @@ use lib.ListN.{length}
 use Rattle.writer.proofs.Going as Going
 use Rattle.entry_image.specs.EntryImage.{entries_image}
 use Rattle.entry_image.proofs.Entries.{next_entry, no_entry}
+use Rattle.entry_image.proofs.put_entries.Goals.{Start}
 use Rattle.entry_image.proofs.put_entries.Goals as goal
 
 -- the array has 128 elements
-long : (s : goal.Start) → length s.args.es ≡ 128
+long : (s : Start) → length s.args.es ≡ 128
 long s = s.well_formed.1.1.0.1.0.1
 
 pub loop-i-init : goal.loop-i-init

@@ -3,10 +3,11 @@ use mathlib.Core.Path.{◌≡◌}
 use lib.ListN.{length, length-map}
 use Rattle.image.proofs.Words.{four}
 use borrow.Author.Rules.{rules}
+use Rattle.image.proofs.front.Goals.{Start}
 use Rattle.image.proofs.front.Goals as goal
 
 -- there are four widths
-widths : (s : goal.Start) → length s.args.s.level_bits ≡ 4
+widths : (s : Start) → length s.args.s.level_bits ≡ 4
 widths s = simp length-map at s.well_formed.1.1.0.1.1.1.0.1.0.1
 
 pub policy_number-policy-requires : goal.policy_number-policy-requires

@@ -6,13 +6,14 @@ use borrow.Author.Tests.{le-leb, lt-leb}
 use Rattle.writer.proofs.Puts.{then, kept}
 use Rattle.image.specs.Image.{image_of, put_state}
 use borrow.Author.Rules.{rules}
+use Rattle.image.proofs.put_state.Goals.{Start}
 use Rattle.image.proofs.put_state.Goals as goal
 
 -- the arrays have their lengths
-four : (s : goal.Start) → length s.args.m.tlb.superpage_masks ≡ 4
+four : (s : Start) → length s.args.m.tlb.superpage_masks ≡ 4
 four s = simp length-map at s.well_formed.0.1.1.0.1.1.1.1.1.1.1.1.1.1.0.1.0.1
 
-hands : (s : goal.Start) → length s.args.m.tlb.clock_hands ≡ 128
+hands : (s : Start) → length s.args.m.tlb.clock_hands ≡ 128
 hands s = simp length-map at s.well_formed.0.1.1.0.1.1.1.0.1.0.1
 
 pub returns-then-out-lt3416 : goal.returns-then-out-lt3416

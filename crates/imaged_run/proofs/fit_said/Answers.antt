@@ -5,6 +5,7 @@ use borrow.Author.Tests.{not-true, not-false}
 use Rattle.state.specs.State.{fit_of}
 use Rattle.imaged_run.specs.Records.{fit_said}
 use borrow.Author.Rules.{rules}
+use Rattle.imaged_run.proofs.fit_said.Goals.{Else-not-fits}
 use Rattle.imaged_run.proofs.fit_said.Goals as goal
 
 pub fits-requires : goal.fits-requires
@@ -17,7 +18,7 @@ returns-then-not-fits c = rw (sym c.fits2.ensures ∙ not-true _ c.if-not-fits.t
 pub is_bought-requires : goal.is_bought-requires
 is_bought-requires c = search rules
 
-fit : (c : goal.Else-not-fits) → fit_of c.args.m ≡ true
+fit : (c : Else-not-fits) → fit_of c.args.m ≡ true
 fit c = sym c.fits2.ensures ∙ not-false _ c.if-not-fits.false-raw
 
 pub returns-then-not-is_bought : goal.returns-then-not-is_bought

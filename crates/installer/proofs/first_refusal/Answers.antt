@@ -8,6 +8,7 @@ use Rattle.plan.specs.Levels.{room_at, Fit, At}
 use Rattle.plan.proofs.Laws as plan
 use Rattle.installer.specs.Install.{top_end}
 use Rattle.installer.proofs.Install.{refuses_1, refuses_4, refuses_5, refuses_6, refuses_7, refuses_none, plan_good, at_root}
+use Rattle.installer.proofs.first_refusal.Goals.{After-room_below, After-table_bytes, Else-not-is_bought}
 use Rattle.installer.proofs.first_refusal.Goals as goal
 
 pub is_bought-requires : goal.is_bought-requires
@@ -20,7 +21,7 @@ pub returns-then-root_pa-ne0 : goal.returns-then-root_pa-ne0
 returns-then-root_pa-ne0 c = refuses_4 _ _ _ _ _ _ c.is_bought.ensures c.if-not-is_bought.false-raw c.if-root_pa-ne0.true
 
 -- the scheme is valid
-fit : (c : goal.Else-not-is_bought) → Fit c.args.scheme
+fit : (c : Else-not-is_bought) → Fit c.args.scheme
 fit c = record { array = search rules; valid = sym c.is_bought.ensures ∙ not-false _ c.if-not-is_bought.false-raw }
 
 pub table_bytes-requires : goal.table_bytes-requires
@@ -29,8 +30,8 @@ table_bytes-requires c = (fit (goal.at.table_bytes-requires c).Else-not-is_bough
 pub overflow_add-stop : goal.overflow_add-stop
 overflow_add-stop c = search rules
 
-end_is : (c : goal.After-table_bytes) → c.args.root-pa + c.table_bytes.result ≡ top_end c.args.scheme c.args.root-pa
-end_is c = ap (λ (n : ℕ). c.args.root-pa + n) c.table_bytes.ensures.0
+end_is : (c : After-table_bytes) → c.args.root_pa + c.table_bytes.result ≡ top_end c.args.scheme c.args.root_pa
+end_is c = ap (λ (n : ℕ). c.args.root_pa + n) c.table_bytes.ensures.0
 
 pub returns-then-len-stop : goal.returns-then-len-stop
 returns-then-len-stop c = refuses_5 _ _ _ _ _ _ c.is_bought.ensures c.if-not-is_bought.false-raw c.if-root_pa-ne0.false _ (end_is (goal.at.returns-then-len-stop c).After-table_bytes) c.if-len-stop.true
@@ -49,7 +50,7 @@ plan_of-p-requires c = search rules
 pub room_below-requires : goal.room_below-requires
 room_below-requires c = subst (λ p. At p 0 0) (sym c.plan_of-p.ensures) (at_root _ (plan_good _ _ _ (fit (goal.at.room_below-requires c).Else-not-is_bought)))
 
-room_is : (c : goal.After-room_below) → c.room_below.result ≡ room_at (plan_of c.args.scheme c.args.spec c.args.window) 0 0
+room_is : (c : After-room_below) → c.room_below.result ≡ room_at (plan_of c.args.scheme c.args.spec c.args.window) 0 0
 room_is c = c.room_below.ensures ∙ ap (λ p. room_at p 0 0) c.plan_of-p.ensures
 
 pub returns-then-root-room_below : goal.returns-then-root-room_below

@@ -6,6 +6,7 @@ use borrow.Author.Tests.{not-true, not-false}
 use Rattle.layout.specs.Layout.{head_ok, bodies_ok, good_in}
 use Rattle.layout.proofs.Fits.{Fits, head_fits}
 use borrow.Author.Rules.{rules}
+use Rattle.layout.proofs.is_good.Goals.{Else-not-head_ok}
 use Rattle.layout.proofs.is_good.Goals as goal
 
 pub head_ok-requires : goal.head_ok-requires
@@ -15,10 +16,10 @@ pub returns-then-not-head_ok : goal.returns-then-not-head_ok
 unfolding good_in
 returns-then-not-head_ok c = rw (sym c.head_ok.ensures ∙ not-true _ c.if-not-head_ok.true-raw)
 
-passed : (c : goal.Else-not-head_ok) → head_ok 1 4 8 c.args.file.now ≡ true
+passed : (c : Else-not-head_ok) → head_ok 1 4 8 c.args.file.now ≡ true
 passed c = sym c.head_ok.ensures ∙ not-false _ c.if-not-head_ok.false-raw
 
-fits : (c : goal.Else-not-head_ok) → Fits c.args.file.now
+fits : (c : Else-not-head_ok) → Fits c.args.file.now
 fits c = head_fits _ (passed c)
 
 pub len_at-map-requires : goal.len_at-map-requires

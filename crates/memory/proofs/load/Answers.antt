@@ -11,16 +11,17 @@ use Rattle.memory.specs.Word.{le_at, readable}
 use Rattle.memory.proofs.Reading.{readable_in, word_is, word_none, load_step}
 use Rattle.memory.proofs.Laws.{word_lt}
 use borrow.Author.Rules.{rules}
+use Rattle.memory.proofs.load.Goals.{Else-not-is_readable, In-loop-k}
 use Rattle.memory.proofs.load.Goals as goal
 
-is_read : (c : goal.Else-not-is_readable) → readable c.args.bits c.args.n c.args.ram.now c.args.a ≡ true
+is_read : (c : Else-not-is_readable) → readable c.args.bits c.args.n c.args.ram.now c.args.a ≡ true
 is_read c = sym c.is_readable.ensures ∙ not-false _ c.if-not-is_readable.false-raw
 
-inside : (c : goal.Else-not-is_readable) → c.args.a + c.args.n ≤ length c.args.ram.now
+inside : (c : Else-not-is_readable) → c.args.a + c.args.n ≤ length c.args.ram.now
 inside c = readable_in _ _ _ _ (is_read c)
 
 -- in a turn at most seven bytes are passed, so one more fits
-small : (c : goal.In-loop-k) → c.loop-k.v < 2 ^ 56
+small : (c : In-loop-k) → c.loop-k.v < 2 ^ 56
 small c =
     let n = c.args.n in
     let ram = c.args.ram.now in

@@ -8,12 +8,13 @@ use borrow.Author.Tests.{not-true, not-false}
 use Rattle.memory.specs.Word.{put_at, readable}
 use Rattle.memory.proofs.Reading.{readable_in, stored, not_stored, store_step}
 use borrow.Author.Rules.{rules}
+use Rattle.memory.proofs.store.Goals.{Else-not-is_readable}
 use Rattle.memory.proofs.store.Goals as goal
 
-is_read : (c : goal.Else-not-is_readable) → readable c.before.before.before.before.args.bits c.before.before.before.before.args.n c.before.before.before.before.args.ram.now c.before.before.before.before.args.a ≡ true
+is_read : (c : Else-not-is_readable) → readable c.args.bits c.args.n c.args.ram.now c.args.a ≡ true
 is_read c = sym c.is_readable.ensures ∙ not-false _ c.if-not-is_readable.false-raw
 
-inside : (c : goal.Else-not-is_readable) → c.before.before.before.before.args.a + c.before.before.before.before.args.n ≤ length c.before.before.before.before.args.ram.now
+inside : (c : Else-not-is_readable) → c.args.a + c.args.n ≤ length c.args.ram.now
 inside c = readable_in _ _ _ _ (is_read c)
 
 pub is_readable-requires : goal.is_readable-requires

@@ -7,9 +7,10 @@ use Rattle.state.proofs.Fitness.{fit_ready}
 use Rattle.mmu.specs.Calls.{granted_with, flush_of}
 use Rattle.mmu.proofs.Refusing.{unfit, fit}
 use borrow.Author.Rules.{rules}
+use Rattle.mmu.proofs.flush.Goals.{Else-not-fits}
 use Rattle.mmu.proofs.flush.Goals as goal
 
-is_fit : (c : goal.Else-not-fits) → fit_of c.args.m ≡ true
+is_fit : (c : Else-not-fits) → fit_of c.args.m ≡ true
 is_fit c = sym c.fits2.ensures ∙ not-false _ c.if-not-fits.false-raw
 
 pub fits-requires : goal.fits-requires

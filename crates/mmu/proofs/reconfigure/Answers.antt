@@ -6,12 +6,13 @@ use Rattle.state.specs.State.{fit_of, with_tlb}
 use Rattle.mmu.specs.Calls.{granted_with, room_for, reconfigure_of}
 use Rattle.mmu.proofs.Refusing.{unfit, fit, passed, failed}
 use borrow.Author.Rules.{rules}
+use Rattle.mmu.proofs.reconfigure.Goals.{Else-not-fits, Else-not-has_room}
 use Rattle.mmu.proofs.reconfigure.Goals as goal
 
-is_fit : (c : goal.Else-not-fits) → fit_of c.args.m ≡ true
+is_fit : (c : Else-not-fits) → fit_of c.args.m ≡ true
 is_fit c = sym c.fits2.ensures ∙ not-false _ c.if-not-fits.false-raw
 
-has_room_now : (c : goal.Else-not-has_room) → room_for c.args.config ≡ true
+has_room_now : (c : Else-not-has_room) → room_for c.args.config ≡ true
 has_room_now c = sym c.has_room.ensures ∙ not-false _ c.if-not-has_room.false-raw
 
 pub fits-requires : goal.fits-requires

@@ -7,12 +7,13 @@ use Rattle.state.specs.State.{fit_of}
 use Rattle.mmu.specs.Calls.{granted_with, set_scheme_of}
 use Rattle.mmu.proofs.Refusing.{unfit, fit, passed, failed}
 use borrow.Author.Rules.{rules}
+use Rattle.mmu.proofs.set_scheme.Goals.{Else-not-fits, Else-not-is_valid}
 use Rattle.mmu.proofs.set_scheme.Goals as goal
 
-is_fit : (c : goal.Else-not-fits) → fit_of c.args.m ≡ true
+is_fit : (c : Else-not-fits) → fit_of c.args.m ≡ true
 is_fit c = sym c.fits2.ensures ∙ not-false _ c.if-not-fits.false-raw
 
-is_valid_now : (c : goal.Else-not-is_valid) → valid_of c.args.s ≡ true
+is_valid_now : (c : Else-not-is_valid) → valid_of c.args.s ≡ true
 is_valid_now c = sym c.is_valid.ensures ∙ not-false _ c.if-not-is_valid.false-raw
 
 pub fits-requires : goal.fits-requires

@@ -6,12 +6,13 @@ use Rattle.state.specs.State.{fit_of}
 use Rattle.mmu.specs.Calls.{is_known, mode_known, translate_of, translate_ram}
 use Rattle.state.proofs.Fitness.{fit_ready}
 use borrow.Author.Rules.{rules}
+use Rattle.mmu.proofs.translate.Goals.{After-is_known, After-satp_mode-arg-2-1, Else-not-fits}
 use Rattle.mmu.proofs.translate.Goals as goal
 
-is_fit : (c : goal.Else-not-fits) → fit_of c.args.m ≡ true
+is_fit : (c : Else-not-fits) → fit_of c.args.m ≡ true
 is_fit c = sym c.fits2.ensures ∙ not-false _ c.if-not-fits.false-raw
 
-mode_said : (c : goal.After-is_known) → c.is_Known.result ≡ (let m = c.args.m in mode_known m.scheme m.satp.raw)
+mode_said : (c : After-is_known) → c.is_Known.result ≡ (let m = c.args.m in mode_known m.scheme m.satp.raw)
 unfolding mode_known
 mode_said c = c.is_Known.ensures ∙ ap is_known c.satp_mode.ensures
 

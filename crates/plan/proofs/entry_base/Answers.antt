@@ -9,13 +9,14 @@ use Rattle.plan.specs.Map.{inherited}
 use Rattle.plan.specs.Levels.{base_at}
 use Rattle.plan.proofs.Laws.{entry_span, base_below}
 use borrow.Author.Rules.{rules}
+use Rattle.plan.proofs.entry_base.Goals.{After-span_at}
 use Rattle.plan.proofs.entry_base.Goals as goal
 
 pub span_at-requires : goal.span_at-requires
 span_at-requires c = search rules
 
 -- under either rule the base lies below the end of the table's range
-small : (c : goal.After-span_at) → c.args.parent + c.args.idx * c.span_at.result ≤ 2 ^ 32
+small : (c : After-span_at) → c.args.parent + c.args.idx * c.span_at.result ≤ 2 ^ 32
 small c =
     let e = c.requires in
     omega (arith, ap (λ (n : ℕ). c.args.idx * n) c.span_at.ensures.0, entry_span c.args.p.scheme e.is_at.good.fit c.args.level c.args.idx e.is_at.inside e.listed, e.is_at.range)

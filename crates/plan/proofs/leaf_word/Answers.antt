@@ -4,6 +4,7 @@ use native.Mathlib.Nat.{div-mul-le_self}
 use Prim.Native.Nat.{◌+◌, ◌*◌, ◌/◌, ◌%◌, ◌≤◌}
 use Rattle.plan.specs.Levels.{leaf_at}
 use borrow.Author.Rules.{rules}
+use Rattle.plan.proofs.leaf_word.Goals.{After-span_at-span}
 use Rattle.plan.proofs.leaf_word.Goals as goal
 
 pub span_at-span-requires : goal.span_at-span-requires
@@ -18,7 +19,7 @@ overflow_add-moved c = search rules
 pub nonzero_div-frame : goal.nonzero_div-frame
 nonzero_div-frame c = search rules
 
-cut : (c : goal.After-span_at-span) → (c.args.base + c.args.p.delta) % 4294967296 / c.span_at-span.result * c.span_at-span.result ≤ (c.args.base + c.args.p.delta) % 4294967296
+cut : (c : After-span_at-span) → (c.args.base + c.args.p.delta) % 4294967296 / c.span_at-span.result * c.span_at-span.result ≤ (c.args.base + c.args.p.delta) % 4294967296
 cut c = div-mul-le_self _ _
 
 pub overflow_mul-frame : goal.overflow_mul-frame

@@ -11,6 +11,7 @@ use Rattle.plan.specs.Map.{shift}
 use Rattle.plan.specs.Levels.{below}
 use Rattle.plan.proofs.Laws.{bits_from_lem}
 use borrow.Author.Rules.{rules}
+use Rattle.plan.proofs.span_at.Goals.{After-shift_below-bits}
 use Rattle.plan.proofs.span_at.Goals as goal
 
 pub shift_below-bits-requires : goal.shift_below-bits-requires
@@ -20,11 +21,11 @@ pub overflow_cast-result : goal.overflow_cast-result
 overflow_cast-result c = search rules
 
 -- the scheme's shift is the plan's
-is_shift : (c : goal.After-shift_below-bits) → c.shift_below-bits.result ≡ shift c.args.p (below c.args.p c.args.level)
+is_shift : (c : After-shift_below-bits) → c.shift_below-bits.result ≡ shift c.args.p (below c.args.p c.args.level)
 unfolding shift_of
 is_shift c = c.shift_below-bits.ensures ∙ rw add-one
 
-small : (c : goal.After-shift_below-bits) → c.shift_below-bits.result ≤ 32
+small : (c : After-shift_below-bits) → c.shift_below-bits.result ≤ 32
 small c =
     omega (arith, is_shift c, bits_from_lem c.args.p.scheme c.requires.0.fit (c.args.level + 1))
 

@@ -2,6 +2,7 @@
 use mathlib.Core.Path.{sym}
 use lib.Seq.{length-take-le}
 use borrow.Author.Rules.{rules}
+use Rattle.replay.proofs.print_run.Goals.{In-Wrote}
 use Rattle.replay.proofs.print_run.Goals as goal
 
 pub slice_bounds-run-end : goal.slice_bounds-run-end

@@ -2,6 +2,7 @@
 use mathlib.Core.Path.{sym}
 use lib.Seq.{length-take-le}
 use borrow.Author.Rules.{rules}
+use Rattle.replay.proofs.replay_next.Goals.{Else-length-gt56861}
 use Rattle.replay.proofs.replay_next.Goals as goal
 
 pub next_length-word-requires : goal.next_length-word-requires

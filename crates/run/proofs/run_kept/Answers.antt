@@ -7,6 +7,7 @@ use Rattle.run.specs.declared.Ran.TheVariants.{Wrote}
 use Rattle.run.specs.Run.{start_in, early_in}
 use Rattle.run.proofs.Laws.{within_read, enough, text_end, text_within, no_text}
 use borrow.Author.Rules.{rules}
+use Rattle.run.proofs.run_kept.Goals.{After-first_of-early, After-set_up-k, Else-out-need}
 use Rattle.run.proofs.run_kept.Goals as goal
 
 pub read-got-requires : goal.read-got-requires
@@ -22,10 +23,10 @@ pub room-need-requires : goal.room-need-requires
 room-need-requires c = rw c.read-got.ensures (within_read _).few
 
 -- what was read, the state that it gives, and what it is refused with
-start : (c : goal.After-set_up-k) → c.set_up-k.result.mmu ≡ start_in c.args.file.now
+start : (c : After-set_up-k) → c.set_up-k.result.mmu ≡ start_in c.args.file.now
 start c = rw c.read-got.ensures at c.set_up-k.ensures.1
 
-early : (c : goal.After-first_of-early) → c.first_of-early.result ≡ early_in c.args.file.now
+early : (c : After-first_of-early) → c.first_of-early.result ≡ early_in c.args.file.now
 early c =
     rw (c.set_up-k.ensures.0, c.read-got.ensures) at c.first_of-early.ensures
 
@@ -35,7 +36,7 @@ returns-then-out-need c =
     (rw e, rw (e, start (goal.at.returns-then-out-need c).After-set_up-k), rw e, rw e, λ n h. no_text h)
 
 -- the buffers are long enough
-long : (c : goal.Else-out-need) → (c.room-need.result ≤ length c.args.out.now) × (c.read-got.result.parts.ram_len ≤ length c.args.ram.now)
+long : (c : Else-out-need) → (c.room-need.result ≤ length c.args.out.now) × (c.read-got.result.parts.ram_len ≤ length c.args.ram.now)
 long c = enough _ _ _ _ c.if-out-need.false
 
 pub run_parts-done-requires : goal.run_parts-done-requires

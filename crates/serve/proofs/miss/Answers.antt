@@ -9,6 +9,7 @@ use Rattle.walk.specs.declared.WalkAnswer.{WalkAnswer}
 use Rattle.access.specs.Translate.{miss_walk}
 use Rattle.serve.proofs.Serving.{served_ok, served_err, page_small}
 use borrow.Author.Rules.{rules}
+use Rattle.serve.proofs.miss.Goals.{After-walk_valid-w}
 use Rattle.serve.proofs.miss.Goals as goal
 
 pub root_of-requires : goal.root_of-requires
@@ -24,11 +25,11 @@ pub ok_at-requires : goal.ok_at-requires
 ok_at-requires c = search rules
 
 -- the walk is the plain one from satp's root
-walked : (c : goal.After-walk_valid-w) → c.walk_valid-w.result ≡ (let a = c.args in answer_of (format_of a.m.scheme) a.q (miss_walk a.m a.q a.ram.now))
+walked : (c : After-walk_valid-w) → c.walk_valid-w.result ≡ (let a = c.args in answer_of (format_of a.m.scheme) a.q (miss_walk a.m a.q a.ram.now))
 walked c = rw (sym c.root_of.ensures) c.walk_valid-w.ensures.0
 
 -- and so are its marks
-marks : (c : goal.After-walk_valid-w) → (let a = c.args in c.walk_valid-w.new.1.1.0 ≡ marked_by (format_of a.m.scheme) a.q.kind a.ram.now (miss_walk a.m a.q a.ram.now))
+marks : (c : After-walk_valid-w) → (let a = c.args in c.walk_valid-w.new.1.1.0 ≡ marked_by (format_of a.m.scheme) a.q.kind a.ram.now (miss_walk a.m a.q a.ram.now))
 marks c = rw (sym c.root_of.ensures) c.walk_valid-w.ensures.1
 
 abbrev served : Answer → Mmu → Served

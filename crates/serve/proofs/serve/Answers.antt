@@ -10,20 +10,21 @@ use Rattle.access.specs.declared.Consulted.{Consulted}
 use Rattle.access.specs.declared.Served.{Served}
 use Rattle.serve.proofs.Serving.{probe_ready, served_passed, served_by}
 use borrow.Author.Rules.{rules}
+use Rattle.serve.proofs.serve.Goals.{After-consult-seen}
 use Rattle.serve.proofs.serve.Goals as goal
 
 abbrev said_of : Mmu → Answer → Served
 said_of m a = record { said = a; mmu = m }
 
-not_passed : (k : goal.After-consult-seen) → bypassed k.args.m k.args.q ≡ false
+not_passed : (k : After-consult-seen) → bypassed k.args.m k.args.q ≡ false
 not_passed k = sym k.passes.ensures ∙ k.if-passes.left
 
 -- what the TLB had to say is what the definition says
-looked : (k : goal.After-consult-seen) → {l : Lookup} → k.consult-seen.result.lookup ≡ l → (consult_of k.args.m k.args.q).lookup ≡ l
+looked : (k : After-consult-seen) → {l : Lookup} → k.consult-seen.result.lookup ≡ l → (consult_of k.args.m k.args.q).lookup ≡ l
 looked k e = sym (ap (λ (x : Consulted). x.lookup) k.consult-seen.ensures) ∙ e
 
 -- an answer that rests on the state after the probe
-after : (k : goal.After-consult-seen) → {A : Type 0} (f : Mmu → A) → f k.consult-seen.result.mmu ≡ f (consult_of k.args.m k.args.q).mmu
+after : (k : After-consult-seen) → {A : Type 0} (f : Mmu → A) → f k.consult-seen.result.mmu ≡ f (consult_of k.args.m k.args.q).mmu
 after k f = ap (λ (x : Consulted). f x.mmu) k.consult-seen.ensures
 
 pub passes-requires : goal.passes-requires

@@ -6,10 +6,11 @@ use mathlib.Core.Logic.{⊎_elim}
 use native.Mathlib.Omega.{arith}
 use lib.ListN.{length}
 use Rattle.slots.proofs.SlotLaws.{best_none, best_step}
+use Rattle.slots.proofs.best_slot.Goals.{Start}
 use Rattle.slots.proofs.best_slot.Goals as goal
 
 -- the array has 128 elements
-long : (s : goal.Start) → length s.args.es ≡ 128
+long : (s : Start) → length s.args.es ≡ 128
 long s = s.well_formed.0.1.0.1
 
 pub offset_bounds-es-start : goal.offset_bounds-es-start

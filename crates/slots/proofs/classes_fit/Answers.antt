@@ -7,10 +7,11 @@ use native.Mathlib.Omega.{arith}
 use lib.ListN.{length}
 use Rattle.slots.specs.Slots.{classes_fit}
 use Rattle.slots.proofs.SlotLaws.{fit_none, fit_step}
+use Rattle.slots.proofs.classes_fit.Goals.{Start}
 use Rattle.slots.proofs.classes_fit.Goals as goal
 
 -- the array has 128 elements
-long : (s : goal.Start) → length s.args.es ≡ 128
+long : (s : Start) → length s.args.es ≡ 128
 long s = s.well_formed.0.1.0.1
 
 pub loop-i-init : goal.loop-i-init

@@ -5,10 +5,11 @@ use mathlib.Core.Path.{◌≡◌, refl, ◌∙◌}
 use native.Mathlib.Omega.{arith}
 use lib.ListN.{length}
 use Rattle.slots.proofs.SlotLaws.{first_none, first_step}
+use Rattle.slots.proofs.first_slot.Goals.{Start}
 use Rattle.slots.proofs.first_slot.Goals as goal
 
 -- the array has 128 elements
-long : (s : goal.Start) → length s.args.es ≡ 128
+long : (s : Start) → length s.args.es ≡ 128
 long s = s.well_formed.0.1.0.1
 
 pub loop-i-init : goal.loop-i-init

@@ -6,10 +6,11 @@ use native.Mathlib.Omega.{arith}
 use lib.ListN.{length}
 use Rattle.entry.specs.Entry.{cleared_of}
 use Rattle.slots.proofs.SlotLaws.{map_none, map_at, map_step}
+use Rattle.slots.proofs.flush_slots.Goals.{Start}
 use Rattle.slots.proofs.flush_slots.Goals as goal
 
 -- the array has 128 elements
-long : (s : goal.Start) → length s.args.es ≡ 128
+long : (s : Start) → length s.args.es ≡ 128
 long s = s.well_formed.0.1.0.1
 
 pub loop-k-init : goal.loop-k-init

@@ -12,13 +12,14 @@ use Rattle.scheme.proofs.Widths.{valid}
 use Rattle.state.specs.State.{alike}
 use Rattle.state.proofs.Fitness.{not_valid, other_count, masks_are, classes_back, fit_by}
 use borrow.Author.Rules.{rules}
+use Rattle.state.proofs.fits.Goals.{Else-not-is_valid}
 use Rattle.state.proofs.fits.Goals as goal
 
 -- past the first test the scheme is valid, and its array holds the used widths
-is_valid_now : (c : goal.Else-not-is_valid) → valid_of c.args.m.scheme ≡ true
+is_valid_now : (c : Else-not-is_valid) → valid_of c.args.m.scheme ≡ true
 is_valid_now c = sym c.is_valid.ensures ∙ not-false _ c.if-not-is_valid.false-raw
 
-long : (c : goal.Else-not-is_valid) → c.args.m.scheme.levels ≤ length c.args.m.scheme.level_bits
+long : (c : Else-not-is_valid) → c.args.m.scheme.levels ≤ length c.args.m.scheme.level_bits
 long c =
     let e : length c.args.m.scheme.level_bits ≡ 4 = search rules in
     omega (arith, (valid _ (is_valid_now c)).four)

@@ -5,10 +5,11 @@ use native.Mathlib.Omega.{arith}
 use borrow.Author.Rules.{rules}
 use lib.ListN.{length}
 use Rattle.state.proofs.Alike.{alike_step, alike_end}
+use Rattle.state.proofs.same_classes.Goals.{Start}
 use Rattle.state.proofs.same_classes.Goals as goal
 
 -- both arrays hold n classes
-long : (c : goal.Start) → (c.args.n ≤ length c.args.a) × (c.args.n ≤ length c.args.b)
+long : (c : Start) → (c.args.n ≤ length c.args.a) × (c.args.n ≤ length c.args.b)
 long c =
     let x : length c.args.a ≡ 4 = search rules in
     let y : length c.args.b ≡ 4 = search rules in

@@ -2,6 +2,7 @@
 use Rattle.std.proofs.Common.{◌+◌, ◌<◌, mod-lt, arith, rules}
 use Rattle.slots.proofs.SlotLaws.{clock_below}
 use Rattle.tlb.specs.Cache.{clock_in}
+use Rattle.tlb_install.proofs.clock_victim.Goals.{After-clock_scan-v}
 use Rattle.tlb_install.proofs.clock_victim.Goals as goal
 
 pub bounds-t-set : goal.bounds-t-set
@@ -16,7 +17,7 @@ nonzero_rem-hand c = omega arith
 pub clock_scan-v-requires : goal.clock_scan-v-requires
 clock_scan-v-requires c = (search rules, mod-lt _ (search rules))
 
-at_below : (c : goal.After-clock_scan-v) → c.clock_scan-v.result.at < c.args.ways
+at_below : (c : After-clock_scan-v) → c.clock_scan-v.result.at < c.args.ways
 at_below c =
     let h : 0 < c.args.ways = search rules in
     rw c.clock_scan-v.ensures (clock_below _ _ c.args.ways _ _ (mod-lt _ h))

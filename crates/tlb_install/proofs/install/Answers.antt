@@ -6,6 +6,7 @@ use Rattle.tlb.specs.Cache.{slot_of, install_in}
 use Rattle.tlb.specs.State.{shape_of, tlb_install}
 use Rattle.tlb.proofs.CacheLaws.{ways_some, set_end}
 use Rattle.tlb_install.proofs.Sets.{set_small}
+use Rattle.tlb_install.proofs.install.Goals.{After-first_slot-s, After-set_for-set, Start}
 use Rattle.tlb_install.proofs.install.Goals as goal
 
 pub ways_of-ways-requires : goal.ways_of-ways-requires
@@ -15,18 +16,18 @@ pub set_for-set-requires : goal.set_for-set-requires
 set_for-set-requires c = search rules
 
 -- the array has 128 elements
-long : (s : goal.Start) → length s.args.t.entries ≡ 128
+long : (s : Start) → length s.args.t.entries ≡ 128
 long s = sym (length-map s.args.t.entries _) ∙ s.well_formed.0.1.1.0.1.0.1
 
 -- the set is one of the sets, so its slots lie in the array
-set_below : (c : goal.After-set_for-set) → c.set_for-set.result < c.args.t.sets
+set_below : (c : After-set_for-set) → c.set_for-set.result < c.args.t.sets
 set_below c = rw c.set_for-set.ensures (mod-lt _ c.requires.some)
 
-slots_below : (c : goal.After-set_for-set) → c.set_for-set.result * c.ways_of-ways.result + c.ways_of-ways.result ≤ 128
+slots_below : (c : After-set_for-set) → c.set_for-set.result * c.ways_of-ways.result + c.ways_of-ways.result ≤ 128
 slots_below c = rw c.ways_of-ways.ensures (set_end _ c.requires _ (set_below c))
 
 -- the slot that was looked for, as the definition says it
-looked : (c : goal.After-first_slot-s) → c.first_slot-s.result ≡ slot_of (shape_of c.args.t) c.args.e.vpn c.args.e.asid c.args.t.entries c.args.e.mask_bits
+looked : (c : After-first_slot-s) → c.first_slot-s.result ≡ slot_of (shape_of c.args.t) c.args.e.vpn c.args.e.asid c.args.t.entries c.args.e.mask_bits
 looked c = rw (c.set_for-set.ensures, c.ways_of-ways.ensures) at c.first_slot-s.ensures
 
 pub overflow_mul-start : goal.overflow_mul-start

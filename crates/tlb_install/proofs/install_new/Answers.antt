@@ -3,10 +3,11 @@ use Rattle.std.proofs.Common.{◌≡◌, ◌+◌, ◌≤◌, length, sym, ◌∙
 use lib.ListN.{length-map}
 use Rattle.slots.proofs.SlotLaws.{first_below}
 use Rattle.tlb.specs.Cache.{install_new}
+use Rattle.tlb_install.proofs.install_new.Goals.{Start}
 use Rattle.tlb_install.proofs.install_new.Goals as goal
 
 -- the array has 128 elements
-long : (s : goal.Start) → length s.args.t.entries ≡ 128
+long : (s : Start) → length s.args.t.entries ≡ 128
 long s = sym (length-map s.args.t.entries _) ∙ s.well_formed.0.1.1.0.1.0.1
 
 pub overflow_add-start : goal.overflow_add-start

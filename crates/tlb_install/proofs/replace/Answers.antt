@@ -5,10 +5,11 @@ use Rattle.slots.proofs.SlotLaws.{quiet_below}
 use Rattle.tlb.specs.State.{cache_of}
 use Rattle.tlb.specs.Cache.{replace_in, victim_in}
 use Rattle.tlb_install.proofs.Sets.{clock_in_lem}
+use Rattle.tlb_install.proofs.replace.Goals.{Start}
 use Rattle.tlb_install.proofs.replace.Goals as goal
 
 -- the array has 128 elements
-long : (s : goal.Start) → length s.args.t.entries ≡ 128
+long : (s : Start) → length s.args.t.entries ≡ 128
 long s = sym (length-map s.args.t.entries _) ∙ s.well_formed.0.1.1.0.1.0.1
 
 pub is_clock-requires : goal.is_clock-requires

@@ -6,6 +6,7 @@ use Rattle.tlb.specs.Cache.{or_slot, find_from}
 use Rattle.tlb.specs.State.{shape_of}
 use Rattle.tlb.proofs.CacheLaws.{set_end}
 use Rattle.tlb_probe.proofs.Classes.{find_none, find_step}
+use Rattle.tlb_probe.proofs.find.Goals.{After-first_slot-s, After-set_for-set, Start}
 use Rattle.tlb_probe.proofs.find.Goals as goal
 
 pub ways_of-ways-requires : goal.ways_of-ways-requires
@@ -21,17 +22,17 @@ pub set_for-set-requires : goal.set_for-set-requires
 set_for-set-requires c = search rules
 
 -- there is room for four classes
-long : (s : goal.Start) → length s.args.t.superpage_masks ≡ 4
+long : (s : Start) → length s.args.t.superpage_masks ≡ 4
 long s = sym (length-map s.args.t.superpage_masks _) ∙ s.well_formed.0.1.1.1.1.1.1.1.1.1.1.0.1.0.1
 
 -- the class's set is one of the sets, so its slots lie in the array
-slots_below : (c : goal.After-set_for-set) → let w = c.ways_of-ways.result in c.set_for-set.result * w + w ≤ 128
+slots_below : (c : After-set_for-set) → let w = c.ways_of-ways.result in c.set_for-set.result * w + w ≤ 128
 slots_below c =
     rw c.ways_of-ways.ensures
     (set_end c.args.t c.requires.0 _ (rw c.set_for-set.ensures (mod-lt _ c.requires.0.some)))
 
 -- one class more: what was looked for decides, or the next class
-stepped : (c : goal.After-first_slot-s) → let a = c.args in let k = c.loop-k.k in find_from (shape_of a.t1) (slice 0 a.t1.mask_count a.t1.superpage_masks) a.vpn a.asid a.t1.entries ≡ or_slot c.first_slot-s.result (find_from (shape_of a.t1) (slice (k + 1) a.t1.mask_count a.t1.superpage_masks) a.vpn a.asid a.t1.entries)
+stepped : (c : After-first_slot-s) → let a = c.args in let k = c.loop-k.k in find_from (shape_of a.t1) (slice 0 a.t1.mask_count a.t1.superpage_masks) a.vpn a.asid a.t1.entries ≡ or_slot c.first_slot-s.result (find_from (shape_of a.t1) (slice (k + 1) a.t1.mask_count a.t1.superpage_masks) a.vpn a.asid a.t1.entries)
 stepped c =
     let l = c.loop-k in
     let m : c.args.t.mask_count ≤ length c.args.t.superpage_masks = rw (long (goal.at.HERE c).Start) c.requires.1 in

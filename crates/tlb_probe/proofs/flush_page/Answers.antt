@@ -5,6 +5,7 @@ use Rattle.tlb.specs.Cache.{flush_page_in}
 use Rattle.tlb.specs.State.{tlb_flush_page}
 use Rattle.tlb.proofs.CacheLaws.{set_end}
 use Rattle.tlb_probe.proofs.Classes.{clear_none, clear_step}
+use Rattle.tlb_probe.proofs.flush_page.Goals.{After-set_for-set, Start}
 use Rattle.tlb_probe.proofs.flush_page.Goals as goal
 
 pub ways_of-ways-requires : goal.ways_of-ways-requires
@@ -20,11 +21,11 @@ pub set_for-set-requires : goal.set_for-set-requires
 set_for-set-requires c = search rules
 
 -- there is room for four classes
-long : (s : goal.Start) → length s.args.t.superpage_masks ≡ 4
+long : (s : Start) → length s.args.t.superpage_masks ≡ 4
 long s = sym (length-map s.args.t.superpage_masks _) ∙ s.well_formed.0.1.1.1.1.1.1.1.1.1.1.0.1.0.1
 
 -- the class's set is one of the sets, so its slots lie in the array
-slots_below : (c : goal.After-set_for-set) → c.set_for-set.result * c.ways_of-ways.result + c.ways_of-ways.result ≤ 128
+slots_below : (c : After-set_for-set) → c.set_for-set.result * c.ways_of-ways.result + c.ways_of-ways.result ≤ 128
 slots_below c =
     rw c.ways_of-ways.ensures
     (set_end c.args.t c.requires.0 _ (rw c.set_for-set.ensures (mod-lt _ c.requires.0.some)))

@@ -4,10 +4,11 @@ use lib.ListN.{length-map}
 use Rattle.tlb.specs.Cache.{probe_in}
 use Rattle.tlb.specs.State.{tlb_probe}
 use Rattle.tlb_probe.proofs.Classes.{found_below}
+use Rattle.tlb_probe.proofs.probe.Goals.{Start}
 use Rattle.tlb_probe.proofs.probe.Goals as goal
 
 -- the array has 128 elements
-long : (s : goal.Start) → length s.args.t.entries ≡ 128
+long : (s : Start) → length s.args.t.entries ≡ 128
 long s = sym (length-map s.args.t.entries _) ∙ s.well_formed.0.1.1.0.1.0.1
 
 pub find-s-requires : goal.find-s-requires

@@ -12,4 +12,4 @@ pub with_low-requires : goal.with_low-requires
 with_low-requires c = search rules
 
 pub returns : goal.returns
-returns c = c.with_low.ensures ∙ ap (λ (n : ℕ). with_low c.args.page-bits n c.args.vaddr) c.frame_of.ensures.0
+returns c = c.with_low.ensures ∙ ap (λ (n : ℕ). with_low c.args.page_bits n c.args.vaddr) c.frame_of.ensures.0

@@ -6,13 +6,14 @@ use Rattle.walker.proofs.Cases.{said}
 use Rattle.walk.specs.Rights.{allows, open_to}
 use Rattle.walk.proofs.Judged.{no_right, privilege, allowed}
 use borrow.Author.Rules.{rules}
+use Rattle.walk.proofs.judge_leaf.Goals.{After-open_to, After-permits}
 use Rattle.walk.proofs.judge_leaf.Goals as goal
 
 -- what the tests say of the leaf's word
-right_said : (c : goal.After-permits) → not c.permits.result ≡ not (allows c.args.access.kind (perms_of c.args.leaf.raw))
+right_said : (c : After-permits) → not c.permits.result ≡ not (allows c.args.access.kind (perms_of c.args.leaf.raw))
 right_said c = ap not (c.permits.ensures ∙ ap (allows c.args.access.kind) (c.perms-p.ensures ∙ ap perms_of c.new.ensures))
 
-mode_said : (c : goal.After-open_to) → not c.open_to.result ≡ not (open_to c.args.access.mode (perms_of c.args.leaf.raw))
+mode_said : (c : After-open_to) → not c.open_to.result ≡ not (open_to c.args.access.mode (perms_of c.args.leaf.raw))
 mode_said c = ap not (c.open_to.ensures ∙ ap (open_to c.args.access.mode) (c.perms-p.ensures ∙ ap perms_of c.new.ensures))
 
 pub new-requires : goal.new-requires

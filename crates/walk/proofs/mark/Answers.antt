@@ -4,10 +4,11 @@ use Rattle.memory.proofs.Reading.{stored}
 use Rattle.walk.specs.Answer.{mark_of}
 use Rattle.walk.proofs.Marks.{mark_put, mark_keep}
 use borrow.Author.Rules.{rules}
+use Rattle.walk.proofs.mark.Goals.{After-marked-word}
 use Rattle.walk.proofs.mark.Goals as goal
 
 -- the word to be stored is the leaf's with its marks
-is_mark : (c : goal.After-marked-word) → c.marked-word.result.raw ≡ mark_of c.args.kind c.args.raw
+is_mark : (c : After-marked-word) → c.marked-word.result.raw ≡ mark_of c.args.kind c.args.raw
 is_mark c = c.marked-word.ensures ∙ ap (mark_of c.args.kind) c.new.ensures
 
 pub new-requires : goal.new-requires

@@ -10,16 +10,17 @@ use Rattle.walk.specs.Answer.{result_of, words_to, mark_in}
 use Rattle.walk.specs.Verdict.{judge_of, walk_of}
 use Rattle.walk.proofs.Judged.{leaf_read}
 use borrow.Author.Rules.{rules}
+use Rattle.walk.proofs.walk_valid.Goals.{After-format-f, After-judge-verdict, After-slice_known-1, In-Page-2}
 use Rattle.walk.proofs.walk_valid.Goals as goal
 
 -- the verdict is what the definition says, from the root's frame
-judged : (c : goal.After-judge-verdict) → c.judge-verdict.result ≡ (let a = c.before.before.before.before.before.args in walk_of a.scheme a.root a.ram.now a.access)
+judged : (c : After-judge-verdict) → c.judge-verdict.result ≡ (let a = c.before.before.before.before.before.args in walk_of a.scheme a.root a.ram.now a.access)
 judged c = c.judge-verdict.ensures ∙ ap (judge_of c.before.before.before.before.before.args.access) c.descend.ensures
 
-leaf_in : (c : goal.In-Page-2) → let f = format_of c.before.before.before.before.before.before.before.args.scheme in readable f.space f.bytes c.before.before.before.before.before.before.before.args.ram.now c.in-Page.leaf.at ≡ true
+leaf_in : (c : In-Page-2) → let f = format_of c.before.before.before.before.before.before.before.args.scheme in readable f.space f.bytes c.before.before.before.before.before.before.before.args.ram.now c.in-Page.leaf.at ≡ true
 leaf_in c = (leaf_read _ _ _ _ _ (said (judged (goal.at.HERE c).After-judge-verdict) c.in-Page.is)).in_ram
 
-is_modest : (c : goal.After-format-f) → Modest c.format-f.result
+is_modest : (c : After-format-f) → Modest c.format-f.result
 is_modest c = subst⁻¹ Modest c.format-f.ensures (modest _)
 
 pub format-f-requires : goal.format-f-requires

@@ -2,6 +2,7 @@
 use mathlib.Core.Path.{sym}
 use lib.Seq.{length-take-le}
 use borrow.Author.Rules.{rules}
+use Rattle.walk_cases.proofs.walked.Goals.{Then-n-ram}
 use Rattle.walk_cases.proofs.walked.Goals as goal
 
 pub slice_bounds-walked-end : goal.slice_bounds-walked-end

@@ -10,9 +10,10 @@ use Rattle.walker.specs.declared.End.TheVariants.{Stop}
 use Rattle.walker.specs.declared.Reason.TheVariants.{WrongTop}
 use Rattle.walker.proofs.Cases.{said, wrong_top, right_top}
 use borrow.Author.Rules.{rules}
+use Rattle.walker.proofs.descend.Goals.{After-top_ok}
 use Rattle.walker.proofs.descend.Goals as goal
 
-top_said : (c : goal.After-top_ok) → c.top_ok.result ≡ top_ok (format_of c.args.scheme) c.args.vaddr
+top_said : (c : After-top_ok) → c.top_ok.result ≡ top_ok (format_of c.args.scheme) c.args.vaddr
 top_said c = c.top_ok.ensures ∙ ap (λ (f : Format). top_ok f c.args.vaddr) c.format-f.ensures
 
 pub format-f-requires : goal.format-f-requires

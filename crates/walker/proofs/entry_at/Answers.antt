@@ -6,15 +6,16 @@ use native.Mathlib.Nat.{mul-le-mul}
 use lib.Pow.{pow_mono}
 use Rattle.walker.specs.Descent.{frame, place, entry_at}
 use borrow.Author.Rules.{rules}
+use Rattle.walker.proofs.entry_at.Goals.{After-struct_known-1}
 use Rattle.walker.proofs.entry_at.Goals as goal
 
 -- the index in bytes, and the frame's address
-index : (c : goal.After-struct_known-1) → c.args.f.bytes * c.low_bits-index.result ≤ 32768
+index : (c : After-struct_known-1) → c.args.f.bytes * c.low_bits-index.result ≤ 32768
 index c =
     let few : c.low_bits-index.result ≤ 4096 = omega (arith, c.low_bits-index.ensures.1, pow_mono c.requires.2) in
     mul-le-mul c.requires.0.short few
 
-frame_low : (c : goal.After-struct_known-1) → c.frame_of-start.result < 2 ^ 56
+frame_low : (c : After-struct_known-1) → c.frame_of-start.result < 2 ^ 56
 frame_low c = omega (arith, c.frame_of-start.ensures.1, pow_mono c.requires.0.narrow)
 
 pub frame_of-start-requires : goal.frame_of-start-requires

@@ -5,13 +5,14 @@ use Rattle.pte.specs.Entry.{valid_bit, perms_of, reserved, high_bits}
 use Rattle.walker.specs.declared.Met.TheVariants.{Table}
 use Rattle.walker.proofs.Cases.{said, invalid, write_only, high_bits_lem, is_leaf, is_table}
 use borrow.Author.Rules.{rules}
+use Rattle.walker.proofs.entry_is.Goals.{Else-high, Else-is_reserved, Else-not-valid}
 use Rattle.walker.proofs.entry_is.Goals as goal
 
 -- what each test that failed says of the word
-valid_said : (c : goal.Else-not-valid) → not (valid_bit c.args.pte.raw) ≡ false
+valid_said : (c : Else-not-valid) → not (valid_bit c.args.pte.raw) ≡ false
 valid_said c = said (ap not c.valid.ensures) c.if-not-valid.false-raw
 
-reserved_said : (c : goal.Else-is_reserved) → reserved (perms_of c.args.pte.raw) ≡ false
+reserved_said : (c : Else-is_reserved) → reserved (perms_of c.args.pte.raw) ≡ false
 reserved_said c = said (c.is_reserved.ensures ∙ ap reserved c.perms.ensures) c.if-is_reserved.false
 
 pub valid-requires : goal.valid-requires
@@ -42,7 +43,7 @@ is_leaf-requires c = search rules
 pub leaf_is-requires : goal.leaf_is-requires
 leaf_is-requires c = search rules
 
-high_said : (c : goal.Else-high) → high_bits c.args.pte.raw ≡ false
+high_said : (c : Else-high) → high_bits c.args.pte.raw ≡ false
 high_said c = said c.high.ensures c.if-high.false
 
 pub returns-then-is_leaf : goal.returns-then-is_leaf

@@ -12,42 +12,43 @@ use Rattle.walker.specs.Descent.{seek, follow}
 use Rattle.walker.specs.declared.Met.{Met}
 use Rattle.walker.specs.declared.Descent.{Descent}
 use Rattle.walker.proofs.Down.{seek_cons, seek_none}
+use Rattle.walker.proofs.go_down.Goals.{After-met_at-met, In-loop-level, Start}
 use Rattle.walker.proofs.go_down.Goals as goal
 
 -- what validity gives, and that the array holds every used width
-known : (c : goal.Start) → Valid c.args.scheme
+known : (c : Start) → Valid c.args.scheme
 known c = valid _ c.requires.0
 
-long : (c : goal.Start) → c.args.scheme.levels ≤ length c.args.scheme.level_bits
+long : (c : Start) → c.args.scheme.levels ≤ length c.args.scheme.level_bits
 long c = let e : length c.args.scheme.level_bits ≡ 4 = search rules in omega (arith, (known c).four)
 
-abbrev width : (c : goal.In-loop-level) → ℕ
+abbrev width : (c : In-loop-level) → ℕ
 width c = get_or c.args.scheme.level_bits c.loop-level.level 0
 
-abbrev below : (c : goal.In-loop-level) → List ℕ
+abbrev below : (c : In-loop-level) → List ℕ
 below c = drop (c.loop-level.level + 1) (widths_of c.args.scheme)
 
-head : (c : goal.In-loop-level) → drop c.loop-level.level (widths_of c.args.scheme) ≡ (width c) ∷ (below c)
+head : (c : In-loop-level) → drop c.loop-level.level (widths_of c.args.scheme) ≡ (width c) ∷ (below c)
 head c = rest_cons c.args.scheme.level_bits c.args.scheme.levels (long (goal.at.overflow_cast-i c).Start) c.loop-level.level c.loop-level-test.true
 
-ok : (c : goal.In-loop-level) → ok_widths ((width c) ∷ (below c)) ≡ true
+ok : (c : In-loop-level) → ok_widths ((width c) ∷ (below c)) ≡ true
 ok c = ap ok_widths (sym (head c)) ∙ c.loop-level.invariant.3
 
-shift_is : (c : goal.In-loop-level) → c.loop-level.shift ≡ c.args.scheme.offset_bits + ((width c) + total (below c))
+shift_is : (c : In-loop-level) → c.loop-level.shift ≡ c.args.scheme.offset_bits + ((width c) + total (below c))
 shift_is c = c.loop-level.invariant.2 ∙ ap (λ (n : ℕ). c.args.scheme.offset_bits + n) (total_cons c.args.scheme.level_bits c.args.scheme.levels (long (goal.at.overflow_cast-i c).Start) c.loop-level.level c.loop-level-test.true)
 
 -- the walk down some widths, from a level and a table
-abbrev walk_from : (c : goal.In-loop-level) → List ℕ → ℕ → ℕ → Descent
+abbrev walk_from : (c : In-loop-level) → List ℕ → ℕ → ℕ → Descent
 walk_from c = seek c.args.f c.args.ram.now c.args.vaddr c.args.scheme.offset_bits
 
 -- where the walk ends, if m is what the turn meets
-abbrev ends : (c : goal.In-loop-level) → Met → Descent
+abbrev ends : (c : In-loop-level) → Met → Descent
 ends c m = follow m (c.loop-level.shift - (width c)) c.loop-level.level ((walk_from c) (below c) (c.loop-level.level + 1))
 
-next_shift : (c : goal.In-loop-level) → c.loop-level.shift - (width c) ≡ c.args.scheme.offset_bits + total (below c)
+next_shift : (c : In-loop-level) → c.loop-level.shift - (width c) ≡ c.args.scheme.offset_bits + total (below c)
 next_shift c = omega (arith, (shift_is c))
 
-turn : (c : goal.After-met_at-met) → walk_from (goal.at.HERE c).In-loop-level (widths_of c.args.scheme) 0 c.args.root ≡ ends (goal.at.HERE c).In-loop-level c.met_at-met.result
+turn : (c : After-met_at-met) → walk_from (goal.at.HERE c).In-loop-level (widths_of c.args.scheme) 0 c.args.root ≡ ends (goal.at.HERE c).In-loop-level c.met_at-met.result
 turn c =
     sym c.loop-level.invariant.4
     ∙ ap (λ (ws : List ℕ). walk_from (goal.at.HERE c).In-loop-level ws c.loop-level.level c.loop-level.table) (head (goal.at.HERE c).In-loop-level)

@@ -6,13 +6,14 @@ use lib.Dec.{eqb}
 use Rattle.pte.specs.Entry.{ppn_of}
 use Rattle.walker.proofs.Cases.{said, misaligned, leaf}
 use borrow.Author.Rules.{rules}
+use Rattle.walker.proofs.leaf_is.Goals.{After-is_aligned}
 use Rattle.walker.proofs.leaf_is.Goals as goal
 
 abbrev aligned : ℕ → ℕ → Bool
 aligned shift n = not (eqb (n % 2 ^ (shift - 12)) 0)
 
 -- what the answer says of the word
-align_said : (c : goal.After-is_aligned) → not c.is_aligned.result ≡ aligned c.args.shift (ppn_of c.args.pte.raw)
+align_said : (c : After-is_aligned) → not c.is_aligned.result ≡ aligned c.args.shift (ppn_of c.args.pte.raw)
 align_said c = ap not c.is_aligned.ensures ∙ ap (aligned c.args.shift) c.ppn.ensures
 
 pub ppn-requires : goal.ppn-requires

@@ -2,6 +2,7 @@
 use mathlib.Core.Path.{sym}
 use lib.Seq.{length-take-le}
 use borrow.Author.Rules.{rules}
+use Rattle.field_cases.proofs.words.within.Goals.{After-struct_known-1, Then-s-eq119}
 use Rattle.field_cases.proofs.words.within.Goals as goal
 
 pub returns-then-ram-n : goal.returns-then-ram-n

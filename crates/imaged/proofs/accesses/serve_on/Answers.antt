@@ -5,6 +5,7 @@ use Rattle.access.specs.declared.Served.{Served}
 use Rattle.imaged.specs.Accesses.{outcome_said, served_said, served_image, served_told}
 use Rattle.imaged.proofs.Laws.{number_refused, number_granted}
 use borrow.Author.Rules.{rules}
+use Rattle.imaged.proofs.accesses.serve_on.Goals.{After-said_of-said, In-Granted-1}
 use Rattle.imaged.proofs.accesses.serve_on.Goals as goal
 
 pub translate-s-requires : goal.translate-s-requires
@@ -29,7 +30,7 @@ pub put_state-requires : goal.put_state-requires
 put_state-requires c = search rules
 
 -- what was said is the outcome's
-said : (c : goal.After-said_of-said) → let a = c.args in c.said_of-said.result ≡ served_said a.m a.q a.ram.now
+said : (c : After-said_of-said) → let a = c.args in c.said_of-said.result ≡ served_said a.m a.q a.ram.now
 unfolding served_said
 said c = c.said_of-said.ensures ∙ ap (λ (s : Served). outcome_said s.said.outcome) c.translate-s.ensures.0
 

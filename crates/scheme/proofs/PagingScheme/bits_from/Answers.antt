@@ -7,6 +7,7 @@ use mir.Syntax.{w8}
 use mir.Val.{Fits}
 use lib.ListN.{length, get_or}
 use Rattle.scheme.proofs.Widths.{total_cons, total_end}
+use Rattle.scheme.proofs.PagingScheme.bits_from.Goals.{After-used-n, After-w-1}
 use Rattle.scheme.proofs.PagingScheme.bits_from.Goals as goal
 
 pub used-n-requires : goal.used-n-requires
@@ -25,10 +26,10 @@ pub overflow_cast-sum-in-loop-i : goal.overflow_cast-sum-in-loop-i
 overflow_cast-sum-in-loop-i c = search rules
 
 -- the array holds every used width, and a width is a byte
-long : (c : goal.After-used-n) → c.used-n.result ≤ length c.args.self.level_bits
+long : (c : After-used-n) → c.used-n.result ≤ length c.args.self.level_bits
 long c = let e : length c.args.self.level_bits ≡ 4 = search rules in omega (arith, c.used-n.ensures.0)
 
-byte : (c : goal.After-w-1) → Fits w8 (get_or c.args.self.level_bits c.loop-i.i 0)
+byte : (c : After-w-1) → Fits w8 (get_or c.args.self.level_bits c.loop-i.i 0)
 byte c = search rules
 
 pub overflow_add-sum : goal.overflow_add-sum

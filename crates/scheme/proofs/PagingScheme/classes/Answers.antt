@@ -2,7 +2,7 @@
 -- the end; what is left of the bits is the sum of the widths that are left.
 use Prim.Native.Nat.{ℕ, ◌≤◌, ◌<◌, ◌+◌, ◌-◌}
 use mathlib.Core.Path.{◌≡◌, refl, ap, ◌∙◌}
-use mathlib.Core.List.{◌∷◌, ◌++◌}
+use mathlib.Core.List.{◌∷◌, ◌++◌, []}
 use native.Mathlib.Omega.{arith}
 use borrow.Author.Rules.{rules}
 use lib.ListN.{length, get_or, drop}
@@ -10,16 +10,17 @@ use lib.Seq.{length-take-le}
 use Rattle.scheme.specs.Scheme.{total, widths_of, classes}
 use Rattle.scheme.proofs.Widths.{Valid, valid, rest_cons, rest_end, total_cons}
 use Rattle.scheme.proofs.Classes.{length_classes, class_put, class_end}
+use Rattle.scheme.proofs.PagingScheme.classes.Goals.{In-loop-i, Start}
 use Rattle.scheme.proofs.PagingScheme.classes.Goals as goal
 
 pub overflow_cast-n : goal.overflow_cast-n
 overflow_cast-n c = search rules
 
 -- the scheme is valid, and its array holds every used width
-good : (c : goal.Start) → Valid c.args.self
+good : (c : Start) → Valid c.args.self
 good c = valid c.args.self c.requires
 
-long : (c : goal.Start) → c.args.self.levels ≤ length c.args.self.level_bits
+long : (c : Start) → c.args.self.levels ≤ length c.args.self.level_bits
 long c =
     let four : length c.args.self.level_bits ≡ 4 = search rules in
     omega (arith, (good c).four)
@@ -48,10 +49,10 @@ pub bounds-self-i : goal.bounds-self-i
 bounds-self-i c = omega (arith, (good (goal.at.bounds-self-i c).Start).four)
 
 -- what is left begins with the width that the turn reads
-first : (c : goal.In-loop-i) → drop c.loop-i.i (widths_of c.args.self) ≡ get_or c.args.self.level_bits c.loop-i.i 0 ∷ drop (c.loop-i.i + 1) (widths_of c.args.self)
+first : (c : In-loop-i) → drop c.loop-i.i (widths_of c.args.self) ≡ get_or c.args.self.level_bits c.loop-i.i 0 ∷ drop (c.loop-i.i + 1) (widths_of c.args.self)
 first c = rest_cons c.args.self.level_bits _ (long (goal.at.bounds-self-i c).Start) _ c.loop-i-test.true
 
-sum : (c : goal.In-loop-i) → c.loop-i.rest ≡ get_or c.args.self.level_bits c.loop-i.i 0 + total (drop (c.loop-i.i + 1) (widths_of c.args.self))
+sum : (c : In-loop-i) → c.loop-i.rest ≡ get_or c.args.self.level_bits c.loop-i.i 0 + total (drop (c.loop-i.i + 1) (widths_of c.args.self))
 sum c =
     c.loop-i.invariant.2
     ∙ total_cons c.args.self.level_bits _ (long (goal.at.bounds-self-i c).Start) _ c.loop-i-test.true

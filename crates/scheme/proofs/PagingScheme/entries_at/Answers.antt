@@ -7,16 +7,17 @@ use Rattle.scheme.specs.Scheme.{known_level, entries_at}
 use Rattle.scheme.proofs.Levels.{known_valid, known_below, width_high, one_width}
 use Rattle.scheme.proofs.Answered.{granted, refused}
 use borrow.Author.Rules.{rules}
+use Rattle.scheme.proofs.PagingScheme.entries_at.Goals.{Then-knows}
 use Rattle.scheme.proofs.PagingScheme.entries_at.Goals as goal
 
 pub knows-requires : goal.knows-requires
 knows-requires c = search rules
 
 -- the test passed, so the level is known
-known : (c : goal.Then-knows) → known_level c.args.self c.args.level ≡ true
+known : (c : Then-knows) → known_level c.args.self c.args.level ≡ true
 known c = sym c.knows.ensures ∙ c.if-knows.true
 
-long : (c : goal.Then-knows) → length c.args.self.level_bits ≡ 4
+long : (c : Then-knows) → length c.args.self.level_bits ≡ 4
 long c = search rules
 
 pub bounds-self-i : goal.bounds-self-i

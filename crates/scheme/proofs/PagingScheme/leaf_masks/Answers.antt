@@ -3,13 +3,14 @@ use mathlib.Core.Path.{◌≡◌, sym, ◌∙◌}
 use mathlib.Core.Bool.{true}
 use borrow.Author.Rules.{rules}
 use Rattle.scheme.specs.Scheme.{valid_of, leaf_masks}
+use Rattle.scheme.proofs.PagingScheme.leaf_masks.Goals.{Then-is_valid}
 use Rattle.scheme.proofs.PagingScheme.leaf_masks.Goals as goal
 
 pub is_valid-requires : goal.is_valid-requires
 is_valid-requires c = search rules
 
 -- the test passed, so the scheme is valid
-is_valid : (c : goal.Then-is_valid) → valid_of c.args.self ≡ true
+is_valid : (c : Then-is_valid) → valid_of c.args.self ≡ true
 is_valid c = sym c.is_valid.ensures ∙ c.if-is_valid.true
 
 pub classes-masks-requires : goal.classes-masks-requires

@@ -10,6 +10,7 @@ use Rattle.scheme.proofs.Widths.{valid}
 use Rattle.scheme.proofs.Levels.{width_high, table_high, table_bytes_lem, modest}
 use Rattle.scheme.proofs.Answered.{granted, refused}
 use borrow.Author.Rules.{rules}
+use Rattle.scheme.proofs.PagingScheme.root_pa.Goals.{After-struct_known-1, Then-is_valid}
 use Rattle.scheme.proofs.PagingScheme.root_pa.Goals as goal
 
 pub is_valid-requires : goal.is_valid-requires
@@ -28,27 +29,27 @@ pub overflow_cast-bytes : goal.overflow_cast-bytes
 overflow_cast-bytes c = search rules
 
 -- the test passed, so the scheme is valid
-is_valid : (c : goal.Then-is_valid) → valid_of c.args.self ≡ true
+is_valid : (c : Then-is_valid) → valid_of c.args.self ≡ true
 is_valid c = sym c.is_valid.ensures ∙ c.if-is_valid.true
 
-long : (c : goal.Then-is_valid) → length c.args.self.level_bits ≡ 4
+long : (c : Then-is_valid) → length c.args.self.level_bits ≡ 4
 long c = search rules
 
 -- the top table's bytes
-abbrev size : tie.After-struct-known → ℕ
-size c = c.before.format.result.bytes
+abbrev size : After-struct_known-1 → ℕ
+size c = c.format-size.result.bytes
 
-small : (c : goal.After-struct_known-1) → size c ≤ 8
+small : (c : After-struct_known-1) → size c ≤ 8
 small c = subst⁻¹ (λ (f : Format). f.bytes ≤ 8) c.format-size.ensures (modest _).short
 
-bytes : (c : goal.After-struct_known-1) → size c * 2 ^ get_or c.args.self.level_bits 0 0 % 2 ^ 64 ≡ size c * 2 ^ get_or (widths_of c.args.self) 0 0
+bytes : (c : After-struct_known-1) → size c * 2 ^ get_or c.args.self.level_bits 0 0 % 2 ^ 64 ≡ size c * 2 ^ get_or (widths_of c.args.self) 0 0
 bytes c = let v = valid _ (is_valid (goal.at.overflow_cast-size c).Then-is_valid) in table_bytes_lem _ (long (goal.at.overflow_cast-size c).Then-is_valid) v 0 v.some (size c) (small c)
 
-few : (c : goal.After-struct_known-1) → size c * 2 ^ get_or (widths_of c.args.self) 0 0 ≤ 32768
+few : (c : After-struct_known-1) → size c * 2 ^ get_or (widths_of c.args.self) 0 0 ≤ 32768
 few c = let v = valid _ (is_valid (goal.at.overflow_cast-size c).Then-is_valid) in table_high _ (long (goal.at.overflow_cast-size c).Then-is_valid) v 0 v.some (size c) (small c)
 
 -- in the scheme's format
-bytes_said : (c : goal.After-struct_known-1) → size c * 2 ^ get_or (widths_of c.args.self) 0 0 ≡ (format_of c.args.self).bytes * 2 ^ get_or (widths_of c.args.self) 0 0
+bytes_said : (c : After-struct_known-1) → size c * 2 ^ get_or (widths_of c.args.self) 0 0 ≡ (format_of c.args.self).bytes * 2 ^ get_or (widths_of c.args.self) 0 0
 bytes_said c = ap (λ (f : Format). f.bytes * 2 ^ get_or (widths_of c.args.self) 0 0) c.format-size.ensures
 
 pub overflow_shl-bytes : goal.overflow_shl-bytes
@@ -73,7 +74,7 @@ overflow_mul-root c = search rules
 pub returns-then-is_valid : goal.returns-then-is_valid
 unfolding root_pa
 returns-then-is_valid c =
-    granted _ _ _ (is_valid (goal.at.returns-then-is_valid c).Then-is_valid) (ap (λ (n : ℕ). (c.args.mem-size - round_up n) / 4096 * 4096) (bytes (goal.at.returns-then-is_valid c).After-struct_known-1 ∙ bytes_said (goal.at.returns-then-is_valid c).After-struct_known-1))
+    granted _ _ _ (is_valid (goal.at.returns-then-is_valid c).Then-is_valid) (ap (λ (n : ℕ). (c.args.mem_size - round_up n) / 4096 * 4096) (bytes (goal.at.returns-then-is_valid c).After-struct_known-1 ∙ bytes_said (goal.at.returns-then-is_valid c).After-struct_known-1))
 
 pub returns : goal.returns
 unfolding root_pa

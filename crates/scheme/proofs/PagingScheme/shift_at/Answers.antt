@@ -4,6 +4,7 @@ use mathlib.Core.Bool.{true}
 use Rattle.scheme.specs.Scheme.{known_level, shift_at}
 use Rattle.scheme.proofs.Answered.{granted, refused}
 use borrow.Author.Rules.{rules}
+use Rattle.scheme.proofs.PagingScheme.shift_at.Goals.{Then-knows}
 use Rattle.scheme.proofs.PagingScheme.shift_at.Goals as goal
 
 pub knows-requires : goal.knows-requires
@@ -13,7 +14,7 @@ pub shift_below-shift-requires : goal.shift_below-shift-requires
 shift_below-shift-requires c = search rules
 
 -- the test passed, so the level is known
-known : (c : goal.Then-knows) → known_level c.args.self c.args.level ≡ true
+known : (c : Then-knows) → known_level c.args.self c.args.level ≡ true
 known c = sym c.knows.ensures ∙ c.if-knows.true
 
 pub overflow_cast-shift : goal.overflow_cast-shift

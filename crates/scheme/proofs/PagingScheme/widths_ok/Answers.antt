@@ -6,6 +6,7 @@ use borrow.Author.Rules.{rules}
 use lib.ListN.{length}
 use Rattle.scheme.specs.Scheme.{ok_widths}
 use Rattle.scheme.proofs.Widths.{ok_cons, ok_end}
+use Rattle.scheme.proofs.PagingScheme.widths_ok.Goals.{After-used-n}
 use Rattle.scheme.proofs.PagingScheme.widths_ok.Goals as goal
 
 pub used-n-requires : goal.used-n-requires
@@ -24,7 +25,7 @@ pub loop-i-smaller : goal.loop-i-smaller
 loop-i-smaller c = search rules
 
 -- the array holds every used width
-long : (c : goal.After-used-n) → c.used-n.result ≤ length c.args.self.level_bits
+long : (c : After-used-n) → c.used-n.result ≤ length c.args.self.level_bits
 long c = let e : length c.args.self.level_bits ≡ 4 = search rules in omega (arith, c.used-n.ensures.0)
 
 pub loop-i-preserved : goal.loop-i-preserved

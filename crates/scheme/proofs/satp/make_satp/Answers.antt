@@ -11,6 +11,6 @@ pub returns : goal.returns
 unfolding satp_in
 returns c =
     let a = c.args in
-    ap (λ (n : ℕ). bit_or (bit_or (2 ^ 31) (n * 2 ^ 22 % 2 ^ 32)) (a.root-pa / 2 ^ 12)) (and_mask a.asid 9)
-    ∙ pack 9 22 (a.asid % 512) (a.root-pa / 2 ^ 12) (omega arith) (omega arith)
+    ap (λ (n : ℕ). bit_or (bit_or (2 ^ 31) (n * 2 ^ 22 % 2 ^ 32)) (a.root_pa / 2 ^ 12)) (and_mask a.asid 9)
+    ∙ pack 9 22 (a.asid % 512) (a.root_pa / 2 ^ 12) (omega arith) (omega arith)
     ∙ omega arith

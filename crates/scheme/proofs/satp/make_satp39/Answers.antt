@@ -11,6 +11,6 @@ pub returns : goal.returns
 unfolding satp_in
 returns c =
     let a = c.args in
-    ap (λ (n : ℕ). bit_or (bit_or (2 ^ 63) (a.asid * 2 ^ 44 % 2 ^ 64)) n) (and_mask (a.root-pa / 2 ^ 12) 44)
-    ∙ pack 19 44 a.asid (a.root-pa / 2 ^ 12 % 2 ^ 44) (omega arith) (omega arith)
+    ap (λ (n : ℕ). bit_or (bit_or (2 ^ 63) (a.asid * 2 ^ 44 % 2 ^ 64)) n) (and_mask (a.root_pa / 2 ^ 12) 44)
+    ∙ pack 19 44 a.asid (a.root_pa / 2 ^ 12 % 2 ^ 44) (omega arith) (omega arith)
     ∙ omega arith

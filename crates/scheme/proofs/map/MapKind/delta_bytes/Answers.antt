@@ -17,8 +17,3 @@ mib_bytes-requires c = search rules
 
 pub returns-in-Identity : goal.returns-in-Identity
 returns-in-Identity c = search rules
-
-pub returns-in-Offset : goal.returns-in-Offset
-returns-in-Offset c =
-    let bits = to_z-of_z {w = w32} {z = c.in-Offset.mib} record { sfits = c.known_told-1.given.0.1 } in
-    rw c.in-Offset.is (c.mib_bytes.ensures ∙ ap delta bits)
