@@ -1,5 +1,5 @@
-// What a host in C or Rust links: numbers and byte slices alone, a slice as a pointer and a length. Names begin with the project's, since a
-// name is the whole program's.
+// The calls of a host in C or Rust: numbers and byte slices alone. `ffi_c` exports each under its name here, which begins with the project's, since
+// a name is the whole program's.
 #![tactic(auto)]
 
 ghost use Rattle.std.specs.Prelude.{◌≡◌, cond, length};
@@ -27,8 +27,7 @@ fn ran_number(ran: Ran) -> usize
 }
 
 // Runs a bundle: the bytes of output that are put at the start of `out`. RAM is left at the start of `ram`.
-#[unsafe(no_mangle)]
-pub extern "C" fn muntesulca_run(file: &[u8], ram: &mut [u8], out: &mut [u8]) -> usize
+pub fn muntesulca_run(file: &[u8], ram: &mut [u8], out: &mut [u8]) -> usize
     ensures { (result ≡ ran_number (ran_of file.now (length ram.old) (length out.old)))
         × (out.new ≡ ran_buffer (too_short file.now (length ram.old) (length out.old)) out.old (output_of file.now))
         × (ram.new ≡ ran_buffer (too_short file.now (length ram.old) (length out.old)) ram.old (end_ram_of file.now)) }
@@ -38,13 +37,7 @@ pub extern "C" fn muntesulca_run(file: &[u8], ram: &mut [u8], out: &mut [u8]) ->
 }
 
 // The same, and the image of the state that is left, at the start of `state`.
-#[unsafe(no_mangle)]
-pub extern "C" fn muntesulca_run_state(
-    file: &[u8],
-    ram: &mut [u8],
-    out: &mut [u8],
-    state: &mut [u8],
-) -> usize
+pub fn muntesulca_run_state(file: &[u8], ram: &mut [u8], out: &mut [u8], state: &mut [u8]) -> usize
     ensures { (result ≡ ran_number (state_ran file.now (length ram.old) (length out.old) (length state.old)))
         × (out.new ≡ ran_buffer (state_short file.now (length ram.old) (length out.old) (length state.old)) out.old (output_of file.now))
         × (ram.new ≡ ran_buffer (state_short file.now (length ram.old) (length out.old) (length state.old)) ram.old (end_ram_of file.now))
@@ -66,13 +59,7 @@ pub extern "C" fn muntesulca_run_state(
 }
 
 // A list of records on a state's image: the bytes of output that are put at the start of `out`.
-#[unsafe(no_mangle)]
-pub extern "C" fn muntesulca_records(
-    image: &mut [u8],
-    records: &[u8],
-    ram: &mut [u8],
-    out: &mut [u8],
-) -> usize
+pub fn muntesulca_records(image: &mut [u8], records: &[u8], ram: &mut [u8], out: &mut [u8]) -> usize
     ensures { (result ≡ ran_number (records_ran image.old records.now ram.old (length out.old)))
         × (out.new ≡ ran_buffer (records_short image.old records.now (length out.old)) out.old (records_text image.old records.now ram.old))
         × (ram.new ≡ cond (records_short image.old records.now (length out.old)) ram.old (records_ram image.old records.now ram.old))
@@ -83,8 +70,7 @@ pub extern "C" fn muntesulca_records(
 }
 
 // The same for the state and the RAM alone: the refusal's number, or 0.
-#[unsafe(no_mangle)]
-pub extern "C" fn muntesulca_events(image: &mut [u8], records: &[u8], ram: &mut [u8]) -> u32
+pub fn muntesulca_events(image: &mut [u8], records: &[u8], ram: &mut [u8]) -> u32
     ensures { (result ≡ said_number (opened_said image.old records.now))
         × (image.new ≡ records_image image.old records.now ram.old)
         × (ram.new ≡ records_ram image.old records.now ram.old) }
@@ -93,40 +79,35 @@ pub extern "C" fn muntesulca_events(image: &mut [u8], records: &[u8], ram: &mut 
 }
 
 // The image of a new state at the start of a buffer.
-#[unsafe(no_mangle)]
-pub extern "C" fn muntesulca_new(config: &[u8], image: &mut [u8]) -> u32
+pub fn muntesulca_new(config: &[u8], image: &mut [u8]) -> u32
     ensures { (result ≡ made_number config.now image.old)
         × (image.new ≡ made_image config.now image.old) }
 {
     imaged::new(config, image)
 }
 
-#[unsafe(no_mangle)]
-pub extern "C" fn muntesulca_set_scheme(image: &mut [u8], scheme: &[u8]) -> u32
+pub fn muntesulca_set_scheme(image: &mut [u8], scheme: &[u8]) -> u32
     ensures { (result ≡ said_number (schemed_of image.old scheme.now).said)
         × (image.new ≡ kept_in (schemed_of image.old scheme.now) image.old) }
 {
     imaged::set_scheme(image, scheme)
 }
 
-#[unsafe(no_mangle)]
-pub extern "C" fn muntesulca_reconfigure(image: &mut [u8], config: &[u8]) -> u32
+pub fn muntesulca_reconfigure(image: &mut [u8], config: &[u8]) -> u32
     ensures { (result ≡ said_number (configured_of image.old config.now).said)
         × (image.new ≡ kept_in (configured_of image.old config.now) image.old) }
 {
     imaged::reconfigure(image, config)
 }
 
-#[unsafe(no_mangle)]
-pub extern "C" fn muntesulca_flush(image: &mut [u8]) -> u32
+pub fn muntesulca_flush(image: &mut [u8]) -> u32
     ensures { (result ≡ said_number (flushed_of image.old).said)
         × (image.new ≡ kept_in (flushed_of image.old) image.old) }
 {
     imaged::flush(image)
 }
 
-#[unsafe(no_mangle)]
-pub extern "C" fn muntesulca_flush_vaddr(image: &mut [u8], vaddr: u64) -> u32
+pub fn muntesulca_flush_vaddr(image: &mut [u8], vaddr: u64) -> u32
     ensures { (result ≡ said_number (flushed_at_of image.old vaddr).said)
         × (image.new ≡ kept_in (flushed_at_of image.old vaddr) image.old) }
 {
@@ -134,8 +115,7 @@ pub extern "C" fn muntesulca_flush_vaddr(image: &mut [u8], vaddr: u64) -> u32
 }
 
 // One access on a state's image: `told` gets the cause, the address, the count of words and the stall.
-#[unsafe(no_mangle)]
-pub extern "C" fn muntesulca_translate(
+pub fn muntesulca_translate(
     image: &mut [u8],
     vaddr: u64,
     kind: u8,
@@ -152,8 +132,7 @@ pub extern "C" fn muntesulca_translate(
 }
 
 // Installs a map into RAM: the refusal's number, or 0.
-#[unsafe(no_mangle)]
-pub extern "C" fn muntesulca_install(scheme: &[u8], map: &[u8], ram: &mut [u8]) -> u32
+pub fn muntesulca_install(scheme: &[u8], map: &[u8], ram: &mut [u8]) -> u32
     ensures { (result ≡ said_number (installed_said scheme.now map.now ram.old))
         × (ram.new ≡ installed_ram scheme.now map.now ram.old) }
 {
@@ -161,8 +140,7 @@ pub extern "C" fn muntesulca_install(scheme: &[u8], map: &[u8], ram: &mut [u8]) 
 }
 
 // One access by a plain walk from a root frame: `told` gets the cause, the address and the count of words.
-#[unsafe(no_mangle)]
-pub extern "C" fn muntesulca_walk(
+pub fn muntesulca_walk(
     scheme: &[u8],
     root: u64,
     vaddr: u64,
@@ -179,29 +157,25 @@ pub extern "C" fn muntesulca_walk(
 }
 
 // The root of a RAM of some size, or the refusal's number.
-#[unsafe(no_mangle)]
-pub extern "C" fn muntesulca_root_pa(scheme: &[u8], ram_size: u64) -> u64
+pub fn muntesulca_root_pa(scheme: &[u8], ram_size: u64) -> u64
     ensures { result ≡ root_number scheme.now ram_size }
 {
     by_bytes::root_pa(scheme, ram_size)
 }
 
-#[unsafe(no_mangle)]
-pub extern "C" fn muntesulca_make_satp(root: u32, asid: u16) -> u32
+pub fn muntesulca_make_satp(root: u32, asid: u16) -> u32
     ensures { result ≡ satp_in sv32 root asid }
 {
     scheme::make_satp(root, asid)
 }
 
-#[unsafe(no_mangle)]
-pub extern "C" fn muntesulca_make_satp39(root: u64, asid: u16) -> u64
+pub fn muntesulca_make_satp39(root: u64, asid: u16) -> u64
     ensures { result ≡ satp_in sv39 root asid }
 {
     scheme::make_satp39(root, asid)
 }
 
-#[unsafe(no_mangle)]
-pub extern "C" fn muntesulca_delta_bytes(mib: i32) -> u32
+pub fn muntesulca_delta_bytes(mib: i32) -> u32
     ensures { result ≡ delta_of (Offset mib) }
 {
     let kind = MapKind::Offset(mib);

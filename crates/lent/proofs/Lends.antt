@@ -25,7 +25,7 @@ use denote.Lend.{lends_ref, ref_back}
 use denote.Memory.{mem}
 use denote.Builtin.{u8}
 use denote.Ref.{MutBor, MutRef}
-use denote.Slice.{slice_val, MutSlice, finally}
+use denote.Slice.{slice_val, MutSlice}
 use denote.Steps.{only, owned, peeks, heard, nothing}
 use denote.Triple.Statement.{Contract, Triple}
 use denote.Triple.Call.{calls_at}
@@ -35,7 +35,7 @@ use Rattle.lent.proofs.Value.{Value, Beside, is_val, lies_in, lies_out}
 use Rattle.lent.proofs.Lent0 as Lent0
 use Rattle.lent.proofs.Lent1 as Lent1
 use Rattle.lent.proofs.LentRam1 as LentRam1
-use Rattle.lent.proofs.LentRam1.{Of}
+use Rattle.lent.proofs.LentRam1.{Of, ram_left}
 
 -- the reference to a local at l that holds h, lent under the name γ
 abbrev ref : (S : Value) → S.row.Denot → ℕ → GName → MutBor S.row.Denot
@@ -107,7 +107,7 @@ module _ (S N : Value) (D : Beside N S) (F : S.row.Denot → D.row.Denot) (core 
         use1 𝓛 (later (some (λ (n : N.row.Denot). ((‵ (flft (ν ∷ []) full_share) ⊛ ‵ ftrue) ⊛ ‵ (N.row.own_val n (v ∷ []))) ⊛ raw (ensured 𝓛 (Lent0.ended S N D F core) (Lent0.clauses S N D F core 𝓤) (ν ∷ [], tt) (ref S h l γ, tt) tt n)))) (id⊢ 𝓤 _) $
         await t tt $ pick t (λ n. split t $ move t (1 ∷ []) $
         use1 𝓛 (some (λ (ws : Lasts (Lent0.ended S N D F core) (ν ∷ [], tt) (ref S h l γ, tt)). ‵ (lasts (Lent0.ended S N D F core) (ν ∷ [], tt) (ref S h l γ, tt) ws) ⊛ raw (fact 𝓤 (D.both n ws.0 ≡ F h)))) (id⊢ 𝓤 _) $ pick t (λ ws.
-        split t $ move t (1 ∷ []) $ heard t (D.both n ws.0 ≡ F h) (λ e. fsplit t $ move t (2 ∷ []) $ split t $ move t (1 ∷ []) $ peeks t N.row (Is N.row) (shows 𝓛 N.row) n (v ∷ []) (λ n-is. drop t $
+        split t $ move t (1 ∷ []) $ heard t (D.both n ws.0 ≡ F h) (λ e. fsplit t $ fsplit t $ move t (1 ∷ []) $ drop t $ move t (2 ∷ []) $ split t $ move t (1 ∷ []) $ peeks t N.row (Is N.row) (shows 𝓛 N.row) n (v ∷ []) (λ n-is. drop t $
         -- [the token and true; the last state; true; the lender's part; ..]
         split t $ move t (1 ∷ 3 ∷ []) $ drop t $ drop t $ move t (0 ∷ 2 ∷ 1 ∷ []) $ back t tt S ws.0 l ν γ (λ s-is. leaves D (F h) l (λ u. lands C Λ E d u rest q) n ws.0 v e n-is s-is k)))))))
 
@@ -137,11 +137,11 @@ module _ (S P N : Value) (D : Beside N S) (F : S.row.Denot → P.row.Denot → D
         use1 𝓛 (later (some (λ (n : N.row.Denot). ((‵ (flft (ν ∷ []) full_share) ⊛ ‵ ftrue) ⊛ ‵ (N.row.own_val n (v ∷ []))) ⊛ raw (ensured 𝓛 (Lent1.ended S P N D F core) (Lent1.clauses S P N D F core 𝓤) (ν ∷ [], tt) (ref S h l γ, (p, tt)) tt n)))) (id⊢ 𝓤 _) $
         await t tt $ pick t (λ n. split t $ move t (1 ∷ []) $
         use1 𝓛 (some (λ (ws : Lasts (Lent1.ended S P N D F core) (ν ∷ [], tt) (ref S h l γ, (p, tt))). ‵ (lasts (Lent1.ended S P N D F core) (ν ∷ [], tt) (ref S h l γ, (p, tt)) ws) ⊛ raw (fact 𝓤 (D.both n ws.0 ≡ F h p)))) (id⊢ 𝓤 _) $ pick t (λ ws.
-        split t $ move t (1 ∷ []) $ heard t (D.both n ws.0 ≡ F h p) (λ e. fsplit t $ move t (2 ∷ []) $ split t $ move t (1 ∷ []) $ peeks t N.row (Is N.row) (shows 𝓛 N.row) n (v ∷ []) (λ n-is. drop t $
+        split t $ move t (1 ∷ []) $ heard t (D.both n ws.0 ≡ F h p) (λ e. fsplit t $ fsplit t $ move t (1 ∷ []) $ drop t $ move t (2 ∷ []) $ split t $ move t (1 ∷ []) $ peeks t N.row (Is N.row) (shows 𝓛 N.row) n (v ∷ []) (λ n-is. drop t $
         -- [the token and true; the last state; what p leaves; the lender's part; ..]
         split t $ move t (1 ∷ 3 ∷ []) $ drop t $ drop t $ move t (0 ∷ 2 ∷ 1 ∷ []) $ back t tt S ws.0 l ν γ (λ s-is. leaves D (F h p) l (λ u. lands C Λ E d u rest q) n ws.0 v e n-is s-is k)))))))
 
--- RAM is passed on for good, at its own lifetime, share and ghost name: what is left is that it ends at G
+-- RAM is passed on for good, at its own lifetime, share and ghost name: what is left is that it ends at G, and its borrow
 module _ (S P N : Value) (D : Beside N S) (F : Of S P N D D.row.Denot) (G : Of S P N D (List ℕ)) (core f : Symbol) where
   abbrev pub CalledRam1 : {M : Type 1} {𝓤 : Ura M} (𝓛 : Logic 𝓤) → Contract 𝓤
   CalledRam1 {𝓤 = 𝓤} 𝓛 = triple_of 𝓛 (LentRam1.ended S P N D F G core).signature (closing 𝓛 (LentRam1.ended S P N D F G core) (LentRam1.clauses S P N D F G core 𝓤))
@@ -165,7 +165,7 @@ module _ (S P N : Value) (D : Beside N S) (F : Of S P N D D.row.Denot) (G : Of S
 
     pub lends_ram1 : K → FmC 𝓤 H 𝓛.laws C → Triple 𝓤 (C (fn₀ f)) (CalledRam1 𝓛) → (h : S.row.Denot) (p : P.row.Denot) (κ : Lft) (qκ : Share) (y : MutBor (List ℕ)) (l : ℕ) → Is S.row h (S.val h ∷ []) → Is P.row p (P.val p ∷ [])
         → ((i j : Item 𝓤) → Opds K 𝓛 (i ∷ j ∷ Γ) E xs (vptr l 0 ∷ P.val p ∷ slice_val y.ref_ptr (length y.now) ∷ []))
-        → (length (G h p y.now) ≡ length y.now → Left D (F h p y.now) K 𝓛 (‵ (flft κ qκ) ∷ ‵ (finally u8 y.ghost_name (G h p y.now)) ∷ Γ) l (λ v. lands C Λ E d v rest q))
+        → (length (G h p y.now) ≡ length y.now → Left D (F h p y.now) K 𝓛 (‵ (flft κ qκ) ∷ ‵ (ram_left κ y (G h p y.now)) ∷ Γ) l (λ v. lands C Λ E d v rest q))
         → Seq K 𝓛 (‵ (fat full_share S.ty l 0 (S.val h)) ∷ ‵ (flft κ qκ) ∷ ‵ ((MutSlice (named 0) κ u8).own_val y (slice_val y.ref_ptr (length y.now) ∷ [])) ∷ Γ) (runs C Λ E (seq (call (fn₀ f) xs d) rest) q)
     lends_ram1 t fm known h p κ qκ y l is p-is os k = out t tt S h l is (λ ν γ. move t (3 ∷ 4 ∷ []) $ join t $ move t (1 ∷ 2 ∷ 0 ∷ []) $ use3 𝓛 (raw ((CalledRam1 𝓛).pre (to_ram1 𝓛 h p κ qκ y l ν γ))) (goes_ram1 𝓛 h p κ qκ y l ν γ p-is) $
         calls_at t fm (CalledRam1 𝓛) known (to_ram1 𝓛 h p κ qκ y l ν γ) (os _ _) (λ v.
@@ -173,9 +173,9 @@ module _ (S P N : Value) (D : Beside N S) (F : Of S P N D D.row.Denot) (G : Of S
         await t tt $ pick t (λ n. split t $ move t (1 ∷ []) $
         use1 𝓛 (some (λ (ws : Lasts (LentRam1.ended S P N D F G core) (ν ∷ [], (κ, tt)) (ref S h l γ, (p, (y, tt)))). ‵ (lasts (LentRam1.ended S P N D F G core) (ν ∷ [], (κ, tt)) (ref S h l γ, (p, (y, tt))) ws)
         ⊛ raw (fact 𝓤 ((D.both n ws.0 ≡ F h p y.now) × (ws.1.1.0 ≡ G h p y.now))))) (id⊢ 𝓤 _) $ pick t (λ ws.
-        split t $ move t (1 ∷ []) $ heard t ((D.both n ws.0 ≡ F h p y.now) × (ws.1.1.0 ≡ G h p y.now)) (λ e. fsplit t $ move t (1 ∷ []) $ fsplit t $ drop t $ fsplit t $ fsplit t $ move t (1 ∷ []) $ feq_l t (λ same.
+        split t $ move t (1 ∷ []) $ heard t ((D.both n ws.0 ≡ F h p y.now) × (ws.1.1.0 ≡ G h p y.now)) (λ e. fsplit t $ fsplit t $ move t (1 ∷ []) $ drop t $ move t (1 ∷ []) $ fsplit t $ drop t $ fsplit t $ fsplit t $ fsplit t $ move t (1 ∷ []) $ feq_l t (λ same. fjoin t $
         move t (3 ∷ []) $ split t $ move t (1 ∷ []) $ peeks t N.row (Is N.row) (shows 𝓛 N.row) n (v ∷ []) (λ n-is. drop t $
-        -- [the tokens; the last RAM; true; the last state; the lender's part; ..]
-        split t $ move t (1 ∷ []) $ split t $ move t (1 ∷ 4 ∷ []) $ drop t $ drop t $ rewrite t 2 (λ (zs : List ℕ). ‵ (finally u8 y.ghost_name zs)) e.1 refl $
+        -- [the tokens; what is had of RAM; true; the last state; the lender's part; ..]
+        split t $ move t (1 ∷ []) $ split t $ move t (1 ∷ 4 ∷ []) $ drop t $ drop t $ rewrite t 2 (λ (zs : List ℕ). ‵ (ram_left κ y zs)) e.1 refl $
         move t (1 ∷ 4 ∷ 3 ∷ []) $ back t tt S ws.0 l ν γ (λ s-is.
         leaves D (F h p y.now) l (λ u. lands C Λ E d u rest q) n ws.0 v e.0 n-is s-is (k (sym (ap length e.1) ∙ same))))))))))

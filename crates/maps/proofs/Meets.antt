@@ -14,7 +14,7 @@ use Rattle.bits.proofs.Bools.{and_right}
 use Rattle.scheme.specs.Scheme.{sv32}
 use Rattle.walker.specs.Descent.{frame, place, entry_at, met_at}
 use Rattle.walker.specs.declared.Met.TheVariants.{Table, Leaf}
-use Rattle.walker.proofs.Cases.{leaf, is_leaf, is_table, is_entry}
+use Rattle.walker.proofs.Cases.{leaf, is_leaf_lem, is_table, is_entry}
 use Rattle.plan.specs.Map.{flags_of}
 use Rattle.installer.specs.Install.{barred}
 use Rattle.maps.proofs.Fields.{valid_is, perms_are, ppn_is, high_is}
@@ -41,7 +41,7 @@ module _ (ram : List ℕ) (shift a w f : ℕ) (in_ram : readable 32 4 ram a ≡ 
       let perms = perms_are f w p g is in
       let even' = ap not (eq-eqb _ _ (ap (λ (n : ℕ). n % 2 ^ (shift - 12)) (ppn_is f w p g is small) ∙ even)) in
       sym (is_entry sv32 ram shift a in_ram)
-      ∙ rw word (sym (is_leaf shift a w valid (ap reserved perms ∙ (lets p ok).0) (high_is f w p g is small) (ap is_leaf perms ∙ (lets p ok).1)) ∙ sym (leaf shift a w even'))
+      ∙ rw word (sym (is_leaf_lem shift a w valid (ap reserved perms ∙ (lets p ok).0) (high_is f w p g is small) (ap is_leaf perms ∙ (lets p ok).1)) ∙ sym (leaf shift a w even'))
 
   -- a pointer's word has the flags of a map that has none
   bare : PtePerms

@@ -1,9 +1,12 @@
 // Runs stored bundles, one after another: reads a little-endian u32 length and that many bytes, writes what `run` answers, and goes on.
 #![tactic(auto)]
 
-use libc::{STDIN_FILENO, STDOUT_FILENO};
 use memory::Word;
 use run::Ran;
+
+const STDIN_FILENO: i32 = 0;
+
+const STDOUT_FILENO: i32 = 1;
 
 // Runs a bundle and writes its output; tells whether that could be done.
 fn print_run(file: &[u8]) -> bool {

@@ -5,7 +5,7 @@
 
 ghost use Rattle.std.specs.Prelude.{◌+◌, ◌≤◌};
 
-use libc::STDIN_FILENO;
+const STDIN_FILENO: i32 = 0;
 
 // What a line asks for: its letter, in lower case, whether it was a capital, and its numbers.
 #[derive(Clone, Copy)]

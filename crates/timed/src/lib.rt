@@ -1,4 +1,4 @@
-// What only the benchmark links: a list of accesses and flushes on a state's image, with each access through the host's call, and the same by
+// What only the benchmark calls, by `timed_c`: a list of accesses and flushes on a state's image, with each access through the host's call, and the same by
 // value. It is no part of the published library. The state goes by value from one record to the next, and is lent by a local at each access.
 #![tactic(auto)]
 
@@ -52,8 +52,7 @@ fn run_lent(records: &[u8], count: usize, m: Mmu, ram: &mut [u8]) -> Mmu
 }
 
 // `muntesulca_events` of the crate `ffi`, through the host's call.
-#[unsafe(no_mangle)]
-pub extern "C" fn muntesulca_events_lent(image: &mut [u8], records: &[u8], ram: &mut [u8]) -> u32
+pub fn muntesulca_events_lent(image: &mut [u8], records: &[u8], ram: &mut [u8]) -> u32
     ensures { (result ≡ said_number (opened_said image.old records.now))
         × (image.new ≡ records_image image.old records.now ram.old)
         × (ram.new ≡ records_ram image.old records.now ram.old) }
@@ -71,9 +70,8 @@ pub extern "C" fn muntesulca_events_lent(image: &mut [u8], records: &[u8], ram: 
     }
 }
 
-// The same by value. Both are in one archive, where `mmu::translate` is one function that both call: what is inlined is the same.
-#[unsafe(no_mangle)]
-pub extern "C" fn muntesulca_events_value(image: &mut [u8], records: &[u8], ram: &mut [u8]) -> u32
+// The same by value.
+pub fn muntesulca_events_value(image: &mut [u8], records: &[u8], ram: &mut [u8]) -> u32
     ensures { (result ≡ said_number (opened_said image.old records.now))
         × (image.new ≡ records_image image.old records.now ram.old)
         × (ram.new ≡ records_ram image.old records.now ram.old) }

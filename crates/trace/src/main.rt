@@ -1,8 +1,11 @@
 // Reads a bundle on standard input, to its end or one byte past the longest good one, and writes its output.
 #![tactic(auto)]
 
-use libc::{STDIN_FILENO, STDOUT_FILENO};
 use run::Ran;
+
+const STDIN_FILENO: i32 = 0;
+
+const STDOUT_FILENO: i32 = 1;
 
 fn main() {
     // 56,860 bytes is the longest good file, 32,768 the longest RAM, and 25 for each of 3,000 records and 113 the longest output.

@@ -39,9 +39,9 @@ module _ (shift a w : ℕ) where
     unfolding entry_is bad_if
     high_bits_lem h = rw (e, r, h)
 
-    pub is_leaf : high_bits w ≡ false → leaf_of w ≡ true → leaf_is shift a w ≡ entry_is shift a w
+    pub is_leaf_lem : high_bits w ≡ false → leaf_of w ≡ true → leaf_is shift a w ≡ entry_is shift a w
     unfolding entry_is bad_if
-    is_leaf h l = rw (e, r, h, l)
+    is_leaf_lem h l = rw (e, r, h, l)
 
     pub is_table : high_bits w ≡ false → leaf_of w ≡ false → Table (ppn_of w) ≡ entry_is shift a w
     unfolding entry_is bad_if

@@ -45,9 +45,9 @@ module _ (f : Format) where
     pub in_ram : readable f.space f.bytes ram a ≡ true
     pub word : le_at f.bytes ram a ≡ w
 
-  pub met_at : (ram : List ℕ) (s a x y : ℕ) → met_at f ram s a ≡ Leaf x y → a ≡ y
+  pub met_at_lem : (ram : List ℕ) (s a x y : ℕ) → met_at f ram s a ≡ Leaf x y → a ≡ y
   unfolding met_at
-  met_at ram s a x y e =
+  met_at_lem ram s a x y e =
       let l : Leaf (le_at f.bytes ram a) a ≡ Leaf x y = entry_leaf s a _ x y (passed _ _ _ x y e).1 in
       cc
 

@@ -2,11 +2,10 @@
 use borrow.Author.Rules.{rules}
 use Prim.Native.Nat.{◌≤◌, ◌-◌}
 use mathlib.Core.Path.{◌≡◌, refl, ◌∙◌}
-use mathlib.Core.Logic.{⊎_elim}
 use native.Mathlib.Omega.{arith}
 use lib.ListN.{length}
 use Rattle.slots.proofs.SlotLaws.{best_none, best_step}
-use Rattle.slots.proofs.best_slot.Goals.{Start}
+use Rattle.slots.proofs.best_slot.Goals.{Start, then-better, else-better}
 use Rattle.slots.proofs.best_slot.Goals as goal
 
 -- the array has 128 elements
@@ -46,7 +45,7 @@ loop-i-preserved c =
     let k : c.args.end ≤ length c.args.es = rw (long (goal.at.loop-i-preserved c).Start) (search rules) in (
       omega arith,
       l.invariant.1 ∙ rw (best_step _ _ _ l.i l.best l.age (search rules) k, ← c.better.ensures)
-          (⊎_elim (λ w. rw (w.0.taken, w.1, w.2)) (λ w. rw (w.0.left, w.1, w.2)) c.if-better.branch),
+          (elim c.if-better.branch [ then-better w ↦ rw (w.if-better.true, w.best-is, w.age-is) | else-better w ↦ rw (w.if-better.false, w.best-is, w.age-is) ]),
     )
 
 pub returns : goal.returns

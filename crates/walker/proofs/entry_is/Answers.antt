@@ -3,7 +3,7 @@ use mathlib.Core.Path.{◌≡◌, ◌∙◌, ap}
 use mathlib.Core.Bool.{false, not}
 use Rattle.pte.specs.Entry.{valid_bit, perms_of, reserved, high_bits}
 use Rattle.walker.specs.declared.Met.TheVariants.{Table}
-use Rattle.walker.proofs.Cases.{said, invalid, write_only, high_bits_lem, is_leaf, is_table}
+use Rattle.walker.proofs.Cases.{said, invalid, write_only, high_bits_lem, is_leaf_lem, is_table}
 use borrow.Author.Rules.{rules}
 use Rattle.walker.proofs.entry_is.Goals.{Else-high, Else-is_reserved, Else-not-valid}
 use Rattle.walker.proofs.entry_is.Goals as goal
@@ -48,7 +48,7 @@ high_said c = said c.high.ensures c.if-high.false
 
 pub returns-then-is_leaf : goal.returns-then-is_leaf
 returns-then-is_leaf c =
-    c.leaf_is.ensures ∙ is_leaf _ _ _ (valid_said (goal.at.returns-then-is_leaf c).Else-not-valid) (reserved_said (goal.at.returns-then-is_leaf c).Else-is_reserved) (high_said (goal.at.returns-then-is_leaf c).Else-high) (said c.is_leaf.ensures c.if-is_leaf.true)
+    c.leaf_is.ensures ∙ is_leaf_lem _ _ _ (valid_said (goal.at.returns-then-is_leaf c).Else-not-valid) (reserved_said (goal.at.returns-then-is_leaf c).Else-is_reserved) (high_said (goal.at.returns-then-is_leaf c).Else-high) (said c.is_leaf.ensures c.if-is_leaf.true)
 
 pub ppn-requires : goal.ppn-requires
 ppn-requires c = search rules

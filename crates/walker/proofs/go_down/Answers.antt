@@ -8,11 +8,11 @@ use borrow.Author.Rules.{rules}
 use lib.ListN.{length, get_or, drop}
 use Rattle.scheme.specs.Scheme.{total, ok_widths, widths_of}
 use Rattle.scheme.proofs.Widths.{Valid, valid, ok_high, ok_rest, rest_cons, rest_end, total_cons, total_end}
-use Rattle.walker.specs.Descent.{seek, follow}
+use Rattle.walker.specs.Descent.{seek, follow, entry_at, met_at}
 use Rattle.walker.specs.declared.Met.{Met}
 use Rattle.walker.specs.declared.Descent.{Descent}
 use Rattle.walker.proofs.Down.{seek_cons, seek_none}
-use Rattle.walker.proofs.go_down.Goals.{After-met_at-met, In-loop-level, Start}
+use Rattle.walker.proofs.go_down.Goals.{In-loop-level, Start}
 use Rattle.walker.proofs.go_down.Goals as goal
 
 -- what validity gives, and that the array holds every used width
@@ -48,11 +48,14 @@ ends c m = follow m (c.loop-level.shift - (width c)) c.loop-level.level ((walk_f
 next_shift : (c : In-loop-level) → c.loop-level.shift - (width c) ≡ c.args.scheme.offset_bits + total (below c)
 next_shift c = omega (arith, (shift_is c))
 
-turn : (c : After-met_at-met) → walk_from (goal.at.HERE c).In-loop-level (widths_of c.args.scheme) 0 c.args.root ≡ ends (goal.at.HERE c).In-loop-level c.met_at-met.result
-turn c =
+-- what is left to seek at the start of a turn is what follows what the turn meets
+turn : (c : In-loop-level) (at : ℕ) (m : Met) → at ≡ entry_at c.args.f c.args.vaddr c.loop-level.table (c.loop-level.shift - width c) (width c)
+    → m ≡ met_at c.args.f c.args.ram.now (c.loop-level.shift - width c) at
+    → walk_from c (widths_of c.args.scheme) 0 c.args.root ≡ ends c m
+turn c at m e g =
     sym c.loop-level.invariant.4
-    ∙ ap (λ (ws : List ℕ). walk_from (goal.at.HERE c).In-loop-level ws c.loop-level.level c.loop-level.table) (head (goal.at.HERE c).In-loop-level)
-    ∙ seek_cons _ _ _ _ (width (goal.at.HERE c).In-loop-level) (below (goal.at.HERE c).In-loop-level) _ _ _ _ _ (next_shift (goal.at.HERE c).In-loop-level) c.entry_at.ensures c.met_at-met.ensures
+    ∙ ap (λ (ws : List ℕ). walk_from c ws c.loop-level.level c.loop-level.table) (head c)
+    ∙ seek_cons _ _ _ _ (width c) (below c) _ _ _ _ _ (next_shift c) e g
 
 pub loop-level-init : goal.loop-level-init
 loop-level-init c =
@@ -82,14 +85,14 @@ enum_known-met c = search rules
 
 pub returns-in-Bad : goal.returns-in-Bad
 unfolding follow
-returns-in-Bad c = sym (turn (goal.at.returns-in-Bad c).After-met_at-met ∙ ap (ends (goal.at.returns-in-Bad c).In-loop-level) c.in-Bad.is)
+returns-in-Bad c = sym (turn (goal.at.returns-in-Bad c).In-loop-level _ _ c.entry_at.ensures c.met_at-met.ensures ∙ ap (ends (goal.at.returns-in-Bad c).In-loop-level) c.in-Bad.is)
 
 pub enum_known-met-in-Leaf-1 : goal.enum_known-met-in-Leaf-1
 enum_known-met-in-Leaf-1 c = search rules
 
 pub returns-in-Leaf : goal.returns-in-Leaf
 unfolding follow
-returns-in-Leaf c = sym (turn (goal.at.returns-in-Leaf c).After-met_at-met ∙ ap (ends (goal.at.returns-in-Leaf c).In-loop-level) c.in-Leaf.is)
+returns-in-Leaf c = sym (turn (goal.at.returns-in-Leaf c).In-loop-level _ _ c.entry_at.ensures c.met_at-met.ensures ∙ ap (ends (goal.at.returns-in-Leaf c).In-loop-level) c.in-Leaf.is)
 
 pub enum_known-met-in-Table-1 : goal.enum_known-met-in-Table-1
 enum_known-met-in-Table-1 c = search rules
@@ -107,7 +110,7 @@ loop-level-preserved c = (
   omega (arith, shift_is (goal.at.loop-level-preserved c).In-loop-level),
   next_shift (goal.at.loop-level-preserved c).In-loop-level,
   ok_rest _ _ (ok (goal.at.loop-level-preserved c).In-loop-level),
-  sym (turn (goal.at.loop-level-preserved c).After-met_at-met ∙ ap (ends (goal.at.loop-level-preserved c).In-loop-level) c.in-Table.is),
+  sym (turn (goal.at.loop-level-preserved c).In-loop-level _ _ c.entry_at.ensures c.met_at-met.ensures ∙ ap (ends (goal.at.loop-level-preserved c).In-loop-level) c.in-Table.is),
 )
 
 pub overflow_sub-last : goal.overflow_sub-last
