@@ -9,7 +9,7 @@ use mathlib.Core.List.{[], ◌∷◌, List}
 use lib.ListN.{length}
 use lib.Dec.{T as Holds}
 use seplogic.Ra.Ura.{Ura}
-use mir.Syntax.{Name, Sym, Fn, Ty, Local, named, erased, mut, ty_struct, tcons, tnil, ty_ref, local, value_local, memory_slot, place, deref, field, copy, rv_opd, addr_of, aggregate, assign, call, seq, return}
+use mir.Syntax.{Symbol, fn₀, Sym, Fn, Ty, Local, named, erased, mut, ty_struct, tcons, tnil, ty_ref, local, value_local, memory_slot, place, deref, field, copy, rv_opd, addr_of, aggregate, assign, call, seq, return}
 use mir.Val.{Val, WT, has_ty, vstruct, vcons, vnil}
 use base.Logic.{SProp, ent, emp, via, fst∗}
 use base.Fml.{GName, Lft, Share, ftrue, flft}
@@ -25,7 +25,7 @@ use denote.Laws.{Is, Lawful, Makes, Typed}
 use denote.Memory.{pointee}
 use denote.Builtin.{u8}
 use denote.Ref.{MutBor}
-use denote.Slice.{slice_val, MutSlice, Room, finally, mut_slice_vals, mut_slice_Tells}
+use denote.Slice.{slice_val, MutSlice, Room, mut_slice_vals, mut_slice_Tells}
 use denote.Signature.{plain, mut_slice_of}
 use denote.Steps.{owned, nothing}
 use denote.Triple.Statement.{Triple}
@@ -35,7 +35,7 @@ use denote.Triple.Spec.{Meets}
 use denote.Triple.Walked.{says, Stays, stay_none, gave_slice, walk_of, Goes-none, Goes-gave_slice, Walks, ends_at, walked, walk_Meets}
 use denote.Exit.{yes}
 use Rattle.lent.proofs.Value.{Value, Beside, beside_ty, beside_val, beside_is, typed, beside_typed}
-use Rattle.lent.proofs.LentRam1.{Of, ram_ty}
+use Rattle.lent.proofs.LentRam1.{Of, ram_ty, ram_left}
 use Rattle.lent.proofs.Lends.{Called0, Called1, CalledRam1, lends0, lends1, lends_ram1}
 
 -- the struct of what the five calls leave
@@ -57,11 +57,13 @@ module _ (S Q P X Y N O : Value) (D : Beside N S) (B : Beside O S) (T : Chain D 
   lent_ref = local (ty_ref erased mut (pointee S.row.written)) value_local
 
   module _ (F : Of S Q N D D.row.Denot) (G : Of S Q N D (List ℕ)) (F₁ : S.row.Denot → P.row.Denot → B.row.Denot) (F₂ : S.row.Denot → B.row.Denot) (F₃ : S.row.Denot → X.row.Denot → B.row.Denot) (F₄ : S.row.Denot → Y.row.Denot → B.row.Denot)
-      (core core₁ core₂ core₃ core₄ f f₁ f₂ f₃ f₄ : Name) where
+      (core core₁ core₂ core₃ core₄ f f₁ f₂ f₃ f₄ : Symbol) where
     abbrev pub function : Fn
     function = record {
       lifetimes = 1;
       outlives = [];
+      ty_params = [];
+      givens = 0;
       params = 6;
       locals = local result_ty value_local ∷ local S.ty value_local ∷ local Q.ty value_local ∷ local P.ty value_local ∷ local X.ty value_local ∷ local Y.ty value_local ∷ local (ram_ty (named 0)) value_local ∷ local S.ty memory_slot
           ∷ local N.ty value_local ∷ local (beside_ty D) value_local ∷ local O.ty value_local ∷ local (beside_ty B) value_local ∷ local O.ty value_local ∷ local (beside_ty B) value_local ∷ local O.ty value_local ∷ local (beside_ty B) value_local ∷ local O.ty value_local ∷ local (beside_ty B) value_local
@@ -70,23 +72,23 @@ module _ (S Q P X Y N O : Value) (D : Beside N S) (B : Beside O S) (T : Chain D 
           (seq (assign (place 18 []) (addr_of (place 7 [])))
           (seq (assign (place 19 []) (addr_of (place 6 (field 0 ∷ deref (pointee u8.written) ∷ []))))
           (seq (assign (place 20 []) (aggregate (copy (place 19 []) ∷ copy (place 6 (field 1 ∷ [])) ∷ [])))
-          (seq (call f (copy (place 18 []) ∷ copy (place 2 []) ∷ copy (place 20 []) ∷ []) (place 8 []))
+          (seq (call (fn₀ f) (copy (place 18 []) ∷ copy (place 2 []) ∷ copy (place 20 []) ∷ []) (place 8 []))
           (seq (assign (place 21 []) (rv_opd (copy (place 7 []))))
           (seq (assign (place 9 []) (aggregate (copy (place 8 []) ∷ copy (place 21 []) ∷ [])))
           (seq (assign (place 22 []) (addr_of (place 7 [])))
-          (seq (call f₁ (copy (place 22 []) ∷ copy (place 3 []) ∷ []) (place 10 []))
+          (seq (call (fn₀ f₁) (copy (place 22 []) ∷ copy (place 3 []) ∷ []) (place 10 []))
           (seq (assign (place 21 []) (rv_opd (copy (place 7 []))))
           (seq (assign (place 11 []) (aggregate (copy (place 10 []) ∷ copy (place 21 []) ∷ [])))
           (seq (assign (place 23 []) (addr_of (place 7 [])))
-          (seq (call f₂ (copy (place 23 []) ∷ []) (place 12 []))
+          (seq (call (fn₀ f₂) (copy (place 23 []) ∷ []) (place 12 []))
           (seq (assign (place 21 []) (rv_opd (copy (place 7 []))))
           (seq (assign (place 13 []) (aggregate (copy (place 12 []) ∷ copy (place 21 []) ∷ [])))
           (seq (assign (place 24 []) (addr_of (place 7 [])))
-          (seq (call f₃ (copy (place 24 []) ∷ copy (place 4 []) ∷ []) (place 14 []))
+          (seq (call (fn₀ f₃) (copy (place 24 []) ∷ copy (place 4 []) ∷ []) (place 14 []))
           (seq (assign (place 21 []) (rv_opd (copy (place 7 []))))
           (seq (assign (place 15 []) (aggregate (copy (place 14 []) ∷ copy (place 21 []) ∷ [])))
           (seq (assign (place 25 []) (addr_of (place 7 [])))
-          (seq (call f₄ (copy (place 25 []) ∷ copy (place 5 []) ∷ []) (place 16 []))
+          (seq (call (fn₀ f₄) (copy (place 25 []) ∷ copy (place 5 []) ∷ []) (place 16 []))
           (seq (assign (place 21 []) (rv_opd (copy (place 7 []))))
           (seq (assign (place 17 []) (aggregate (copy (place 16 []) ∷ copy (place 21 []) ∷ [])))
           (seq (assign (place 0 []) (aggregate (copy (place 9 []) ∷ copy (place 11 []) ∷ copy (place 13 []) ∷ copy (place 15 []) ∷ copy (place 17 []) ∷ []))) return)))))))))))))))))))))));
@@ -171,17 +173,17 @@ module _ (S Q P X Y N O : Value) (D : Beside N S) (B : Beside O S) (T : Chain D 
       result_typed : Result-is → Holds (has_ty result_ty m) × WT m
       result_typed r-is = (subst (λ (τs : List Ty). Typed τs (m ∷ [])) T.mir_is ((T.lawful 𝓛).typed (told h q v x y ys) (m ∷ []) r-is)).0
 
-      exits : length (G h q ys) ≡ length ys → Result-is → ent 𝓤 (⋆ 𝓛 ((‵ (flft κ qκ) ⊛ ‵ ftrue) ∷ ‵ (finally u8 γ (G h q ys)) ∷ [])) (Post m)
+      exits : length (G h q ys) ≡ length ys → Result-is → ent 𝓤 (⋆ 𝓛 ((‵ (flft κ qκ) ⊛ ‵ ftrue) ∷ ‵ (ram_left κ ram (G h q ys)) ∷ [])) (Post m)
       exits same r-is =
-          qed 𝓛 ((‵ (flft κ qκ) ⊛ ‵ ftrue) ∷ ‵ (finally u8 γ (G h q ys)) ∷ []) ∵
+          qed 𝓛 ((‵ (flft κ qκ) ⊛ ‵ ftrue) ∷ ‵ (ram_left κ ram (G h q ys)) ∷ []) ∵
           suffices ! _ (ends_at 𝓛 ended stayed (clauses 𝓤) (((κ, tt), (qκ, tt), tt, ps, vs), tt) m (told h q v x y ys) (S.last h, (Q.last q, (P.last v, (X.last x, (Y.last y, (G h q ys, tt)))))) (tt, (tt, (tt, (tt, (tt, (same, tt))))))) $
           says ! (refl, refl) $ frame ! $ nothing ! $ move ! (1 ∷ 0 ∷ []) $ fjoin ! $
           owned ! Y.row (Is Y.row) (Y.makes 𝓛) y _ y-is $ fjoin ! $ owned ! X.row (Is X.row) (X.makes 𝓛) x _ x-is $ fjoin ! $ owned ! P.row (Is P.row) (P.makes 𝓛) v _ v-is $ fjoin ! $
           owned ! Q.row (Is Q.row) (Q.makes 𝓛) q _ q-is $ fjoin ! $ owned ! S.row (Is S.row) (S.makes 𝓛) h _ is $ fjoin ! $
           owned ! T.row (Is T.row) (T.makes 𝓛) (told h q v x y ys) _ r-is $ move ! (1 ∷ 0 ∷ []) $ done !
 
-      module _ (C : Calls 𝓤 H) (Λ : Loops 𝓤 H) (fm : FmC 𝓤 H 𝓛.laws C) (known : Triple 𝓤 (C f) (CalledRam1 S Q N D F G core f 𝓛)) (known₁ : Triple 𝓤 (C f₁) (Called1 S P O B F₁ core₁ f₁ 𝓛)) (known₂ : Triple 𝓤 (C f₂) (Called0 S O B F₂ core₂ f₂ 𝓛))
-          (known₃ : Triple 𝓤 (C f₃) (Called1 S X O B F₃ core₃ f₃ 𝓛)) (known₄ : Triple 𝓤 (C f₄) (Called1 S Y O B F₄ core₄ f₄ 𝓛)) where
+      module _ (C : Calls 𝓤 H) (Λ : Loops 𝓤 H) (fm : FmC 𝓤 H 𝓛.laws C) (known : Triple 𝓤 (C (fn₀ f)) (CalledRam1 S Q N D F G core f 𝓛)) (known₁ : Triple 𝓤 (C (fn₀ f₁)) (Called1 S P O B F₁ core₁ f₁ 𝓛)) (known₂ : Triple 𝓤 (C (fn₀ f₂)) (Called0 S O B F₂ core₂ f₂ 𝓛))
+          (known₃ : Triple 𝓤 (C (fn₀ f₃)) (Called1 S X O B F₃ core₃ f₃ 𝓛)) (known₄ : Triple 𝓤 (C (fn₀ f₄)) (Called1 S Y O B F₄ core₄ f₄ 𝓛)) where
         walk : ent 𝓤 (on_entry 𝓛 ended.signature (κ, tt) (qκ, tt) ps vs) (WpFn 𝓤 H C Λ function (S.val h ∷ Q.val q ∷ P.val v ∷ X.val x ∷ Y.val y ∷ s ∷ []) Post)
         walk =
             qed 𝓛 ((‵ (flft κ qκ) ⊛ ‵ ftrue) ∷ ‵ (owns (S.row ∷ Q.row ∷ P.row ∷ X.row ∷ Y.row ∷ MutSlice (named 0) κ u8 ∷ []) ps vs) ∷ []) ∵
@@ -230,8 +232,8 @@ module _ (S Q P X Y N O : Value) (D : Beside N S) (B : Beside O S) (T : Chain D 
     module _ {M : Type 1} {𝓤 : Ura M} (𝓛 : Logic 𝓤) where
       open 𝓛 use {H}
 
-      module _ (C : Calls 𝓤 H) (Λ : Loops 𝓤 H) (fm : FmC 𝓤 H 𝓛.laws C) (known : Triple 𝓤 (C f) (CalledRam1 S Q N D F G core f 𝓛)) (known₁ : Triple 𝓤 (C f₁) (Called1 S P O B F₁ core₁ f₁ 𝓛)) (known₂ : Triple 𝓤 (C f₂) (Called0 S O B F₂ core₂ f₂ 𝓛))
-          (known₃ : Triple 𝓤 (C f₃) (Called1 S X O B F₃ core₃ f₃ 𝓛)) (known₄ : Triple 𝓤 (C f₄) (Called1 S Y O B F₄ core₄ f₄ 𝓛)) where
+      module _ (C : Calls 𝓤 H) (Λ : Loops 𝓤 H) (fm : FmC 𝓤 H 𝓛.laws C) (known : Triple 𝓤 (C (fn₀ f)) (CalledRam1 S Q N D F G core f 𝓛)) (known₁ : Triple 𝓤 (C (fn₀ f₁)) (Called1 S P O B F₁ core₁ f₁ 𝓛)) (known₂ : Triple 𝓤 (C (fn₀ f₂)) (Called0 S O B F₂ core₂ f₂ 𝓛))
+          (known₃ : Triple 𝓤 (C (fn₀ f₃)) (Called1 S X O B F₃ core₃ f₃ 𝓛)) (known₄ : Triple 𝓤 (C (fn₀ f₄)) (Called1 S Y O B F₄ core₄ f₄ 𝓛)) where
         walks : Walks 𝓛 ended stayed (WpFn 𝓤 H C Λ function) (clauses 𝓤)
         walks = walked 𝓛 ended stayed (clauses 𝓤) (WpFn 𝓤 H C Λ function)
             (λ κs. ((λ z. S.val z ∷ []), ((λ z. Q.val z ∷ []), ((λ z. P.val z ∷ []), ((λ z. X.val z ∷ []), ((λ z. Y.val z ∷ []), (mut_slice_vals, tt)))))))
@@ -239,8 +241,8 @@ module _ (S Q P X Y N O : Value) (D : Beside N S) (B : Beside O S) (T : Chain D 
             (λ κs qs bounds a _ are. via 𝓤 _ (fst∗ 𝓤 _ (emp 𝓤)) (walk 𝓛 κs.0 qs.0 a.0 a.1.0 a.1.1.0 a.1.1.1.0 a.1.1.1.1.0 a.1.1.1.1.1.0.ref_ptr.0 a.1.1.1.1.1.0.ref_ptr.1 a.1.1.1.1.1.0.ghost_name a.1.1.1.1.1.0.now
             are.0 are.1.0 are.1.1.0 are.1.1.1.0 are.1.1.1.1.0 are.1.1.1.1.1.0.0.1 C Λ fm known known₁ known₂ known₃ known₄))
 
-      pub meets : (𝓣 : Tables 𝓤 H) → Triple 𝓤 (𝓣.C f) (CalledRam1 S Q N D F G core f 𝓛) → Triple 𝓤 (𝓣.C f₁) (Called1 S P O B F₁ core₁ f₁ 𝓛) → Triple 𝓤 (𝓣.C f₂) (Called0 S O B F₂ core₂ f₂ 𝓛) → Triple 𝓤 (𝓣.C f₃) (Called1 S X O B F₃ core₃ f₃ 𝓛)
-          → Triple 𝓤 (𝓣.C f₄) (Called1 S Y O B F₄ core₄ f₄ 𝓛) → Meets 𝓛 ended.signature (WpFn 𝓤 H 𝓣.C 𝓣.Λ function) (closing 𝓛 ended (clauses 𝓤))
+      pub meets : (𝓣 : Tables 𝓤 H) → Triple 𝓤 (𝓣.C (fn₀ f)) (CalledRam1 S Q N D F G core f 𝓛) → Triple 𝓤 (𝓣.C (fn₀ f₁)) (Called1 S P O B F₁ core₁ f₁ 𝓛) → Triple 𝓤 (𝓣.C (fn₀ f₂)) (Called0 S O B F₂ core₂ f₂ 𝓛) → Triple 𝓤 (𝓣.C (fn₀ f₃)) (Called1 S X O B F₃ core₃ f₃ 𝓛)
+          → Triple 𝓤 (𝓣.C (fn₀ f₄)) (Called1 S Y O B F₄ core₄ f₄ 𝓛) → Meets 𝓛 ended.signature (WpFn 𝓤 H 𝓣.C 𝓣.Λ function) (closing 𝓛 ended (clauses 𝓤))
       meets 𝓣 known known₁ known₂ known₃ known₄ =
           walk_Meets 𝓛 ended stayed (
             Goes-none 𝓛 1 (λ _. S.row) yes (λ κs. S.silent),

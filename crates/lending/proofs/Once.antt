@@ -8,7 +8,7 @@ use Prim.Native.Nat.{ℕ}
 use mathlib.Core.List.{[], ◌∷◌, List}
 use lib.ListN.{length}
 use seplogic.Ra.Ura.{Ura}
-use mir.Syntax.{Name, Fn, named, erased, mut, ty_ref, local, value_local, memory_slot, place, deref, field, copy, rv_opd, addr_of, aggregate, assign, call, seq, return}
+use mir.Syntax.{Symbol, fn₀, Fn, named, erased, mut, ty_ref, local, value_local, memory_slot, place, deref, field, copy, rv_opd, addr_of, aggregate, assign, call, seq, return}
 use mir.Val.{Val}
 use base.Logic.{SProp, ent, emp, via, fst∗}
 use base.Fml.{GName, Lft, Share, ftrue, flft}
@@ -23,7 +23,7 @@ use denote.Laws.{Is}
 use denote.Memory.{pointee}
 use denote.Builtin.{u8}
 use denote.Ref.{MutBor}
-use denote.Slice.{slice_val, MutSlice, Room, finally, mut_slice_vals, mut_slice_Tells}
+use denote.Slice.{slice_val, MutSlice, Room, mut_slice_vals, mut_slice_Tells}
 use denote.Signature.{plain}
 use denote.Steps.{owned, nothing}
 use denote.Triple.Statement.{Triple}
@@ -33,14 +33,16 @@ use denote.Triple.Spec.{Meets}
 use denote.Triple.Walked.{says, Stays, stay_none, gave_slice, walk_of, Goes-none, Goes-gave_slice, Walks, ends_at, walked, walk_Meets}
 use denote.Exit.{yes}
 use Rattle.lent.proofs.Value.{Value, Beside, beside_ty, beside_val, beside_is, typed, beside_typed}
-use Rattle.lent.proofs.LentRam1.{Of, ram_ty, core_ended, core_clauses}
+use Rattle.lent.proofs.LentRam1.{Of, ram_ty, ram_left, core_ended, core_clauses}
 use Rattle.lent.proofs.Lends.{CalledRam1, lends_ram1}
 
-module _ (S P N : Value) (D : Beside N S) (F : Of S P N D D.row.Denot) (G : Of S P N D (List ℕ)) (core f : Name) where
+module _ (S P N : Value) (D : Beside N S) (F : Of S P N D D.row.Denot) (G : Of S P N D (List ℕ)) (core f : Symbol) where
   abbrev pub function : Fn
   function = record {
     lifetimes = 1;
     outlives = [];
+    ty_params = [];
+    givens = 0;
     params = 3;
     locals = local (beside_ty D) value_local ∷ local S.ty value_local ∷ local P.ty value_local ∷ local (ram_ty (named 0)) value_local ∷ local S.ty memory_slot ∷ local N.ty value_local
         ∷ local (ty_ref erased mut (pointee S.row.written)) value_local ∷ local (ty_ref erased mut (pointee u8.written)) value_local ∷ local (ram_ty erased) value_local ∷ local S.ty value_local ∷ [];
@@ -48,7 +50,7 @@ module _ (S P N : Value) (D : Beside N S) (F : Of S P N D D.row.Denot) (G : Of S
         (seq (assign (place 6 []) (addr_of (place 4 [])))
         (seq (assign (place 7 []) (addr_of (place 3 (field 0 ∷ deref (pointee u8.written) ∷ []))))
         (seq (assign (place 8 []) (aggregate (copy (place 7 []) ∷ copy (place 3 (field 1 ∷ [])) ∷ [])))
-        (seq (call f (copy (place 6 []) ∷ copy (place 2 []) ∷ copy (place 8 []) ∷ []) (place 5 []))
+        (seq (call (fn₀ f) (copy (place 6 []) ∷ copy (place 2 []) ∷ copy (place 8 []) ∷ []) (place 5 []))
         (seq (assign (place 9 []) (rv_opd (copy (place 4 []))))
         (seq (assign (place 0 []) (aggregate (copy (place 5 []) ∷ copy (place 9 []) ∷ []))) return))))));
   }
@@ -83,15 +85,15 @@ module _ (S P N : Value) (D : Beside N S) (F : Of S P N D D.row.Denot) (G : Of S
     abbrev m : Val
     m = beside_val D told
 
-    exits : length (G h p ys) ≡ length ys → Is D.row told (m ∷ []) → ent 𝓤 (⋆ 𝓛 ((‵ (flft κ qκ) ⊛ ‵ ftrue) ∷ ‵ (finally u8 γ (G h p ys)) ∷ [])) (Post m)
+    exits : length (G h p ys) ≡ length ys → Is D.row told (m ∷ []) → ent 𝓤 (⋆ 𝓛 ((‵ (flft κ qκ) ⊛ ‵ ftrue) ∷ ‵ (ram_left κ ram (G h p ys)) ∷ [])) (Post m)
     exits same r-is =
-        qed 𝓛 ((‵ (flft κ qκ) ⊛ ‵ ftrue) ∷ ‵ (finally u8 γ (G h p ys)) ∷ []) ∵
+        qed 𝓛 ((‵ (flft κ qκ) ⊛ ‵ ftrue) ∷ ‵ (ram_left κ ram (G h p ys)) ∷ []) ∵
         suffices ! _ (ends_at 𝓛 (core_ended S P N D F G core) stayed (core_clauses S P N D F G core 𝓤) (((κ, tt), (qκ, tt), tt, ps, vs), tt) m told (S.last h, (P.last p, (G h p ys, tt))) (tt, (tt, (same, tt)))) $
         says ! (refl, refl) $ frame ! $ nothing ! $ move ! (1 ∷ 0 ∷ []) $ fjoin ! $
         owned ! P.row (Is P.row) (P.makes 𝓛) p _ p-is $ fjoin ! $ owned ! S.row (Is S.row) (S.makes 𝓛) h _ is $ fjoin ! $
         owned ! D.row (Is D.row) (D.makes 𝓛) told _ r-is $ move ! (1 ∷ 0 ∷ []) $ done !
 
-    module _ (C : Calls 𝓤 H) (Λ : Loops 𝓤 H) (fm : FmC 𝓤 H 𝓛.laws C) (known : Triple 𝓤 (C f) (CalledRam1 S P N D F G core f 𝓛)) where
+    module _ (C : Calls 𝓤 H) (Λ : Loops 𝓤 H) (fm : FmC 𝓤 H 𝓛.laws C) (known : Triple 𝓤 (C (fn₀ f)) (CalledRam1 S P N D F G core f 𝓛)) where
       walk : ent 𝓤 (on_entry 𝓛 (core_ended S P N D F G core).signature (κ, tt) (qκ, tt) ps vs) (WpFn 𝓤 H C Λ function (S.val h ∷ P.val p ∷ s ∷ []) Post)
       walk =
           qed 𝓛 ((‵ (flft κ qκ) ⊛ ‵ ftrue) ∷ ‵ (owns (S.row ∷ P.row ∷ MutSlice (named 0) κ u8 ∷ []) ps vs) ∷ []) ∵
@@ -118,13 +120,13 @@ module _ (S P N : Value) (D : Beside N S) (F : Of S P N D D.row.Denot) (G : Of S
   module _ {M : Type 1} {𝓤 : Ura M} (𝓛 : Logic 𝓤) where
     open 𝓛 use {H}
 
-    walks : (C : Calls 𝓤 H) (Λ : Loops 𝓤 H) → FmC 𝓤 H 𝓛.laws C → Triple 𝓤 (C f) (CalledRam1 S P N D F G core f 𝓛) → Walks 𝓛 (core_ended S P N D F G core) stayed (WpFn 𝓤 H C Λ function) (core_clauses S P N D F G core 𝓤)
+    walks : (C : Calls 𝓤 H) (Λ : Loops 𝓤 H) → FmC 𝓤 H 𝓛.laws C → Triple 𝓤 (C (fn₀ f)) (CalledRam1 S P N D F G core f 𝓛) → Walks 𝓛 (core_ended S P N D F G core) stayed (WpFn 𝓤 H C Λ function) (core_clauses S P N D F G core 𝓤)
     walks C Λ fm known = walked 𝓛 (core_ended S P N D F G core) stayed (core_clauses S P N D F G core 𝓤) (WpFn 𝓤 H C Λ function)
         (λ κs. ((λ z. S.val z ∷ []), ((λ z. P.val z ∷ []), (mut_slice_vals, tt)))) (λ κs. (S.tells, (P.tells, (mut_slice_Tells (named 0) κs.0 u8, tt))))
         (λ κs qs bounds a _ are. via 𝓤 _ (fst∗ 𝓤 _ (emp 𝓤)) (walk 𝓛 κs.0 qs.0 a.0 a.1.0 a.1.1.0.ref_ptr.0 a.1.1.0.ref_ptr.1 a.1.1.0.ghost_name a.1.1.0.now
         are.0 are.1.0 are.1.1.0.0.1 C Λ fm known))
 
-    pub meets : (𝓣 : Tables 𝓤 H) → Triple 𝓤 (𝓣.C f) (CalledRam1 S P N D F G core f 𝓛) → Meets 𝓛 (core_ended S P N D F G core).signature (WpFn 𝓤 H 𝓣.C 𝓣.Λ function) (closing 𝓛 (core_ended S P N D F G core) (core_clauses S P N D F G core 𝓤))
+    pub meets : (𝓣 : Tables 𝓤 H) → Triple 𝓤 (𝓣.C (fn₀ f)) (CalledRam1 S P N D F G core f 𝓛) → Meets 𝓛 (core_ended S P N D F G core).signature (WpFn 𝓤 H 𝓣.C 𝓣.Λ function) (closing 𝓛 (core_ended S P N D F G core) (core_clauses S P N D F G core 𝓤))
     meets 𝓣 known =
         walk_Meets 𝓛 (core_ended S P N D F G core) stayed
         (Goes-none 𝓛 1 (λ _. S.row) yes (λ κs. S.silent), (Goes-none 𝓛 1 (λ _. P.row) yes (λ κs. P.silent), (Goes-gave_slice 𝓛 1 0 tt (plain (λ _. u8)), tt))) (core_clauses S P N D F G core 𝓤)

@@ -1,5 +1,5 @@
 // An MMU that is kept in a local and lent: to one access, and in a session in small to each of the host's calls, one after another. The
-// parameters are plain, so that callers are covered and need no walk.
+// parameters are plain, for callers that have their state by value.
 #![tactic(auto)]
 
 ghost use Rattle.std.specs.Prelude.{◌≡◌};

@@ -43,11 +43,12 @@ module _ (S N : Value) (D : Beside N S) (F : S.row.Denot → D.row.Denot) (g : S
     ty_params = [];
     givens = 0;
     params = 1;
-    locals = local N.ty value_local ∷ local (ty_ref (named 0) mut (pointee S.row.written)) value_local ∷ local (beside_ty D) value_local ∷ local S.ty value_local ∷ [];
+    locals = local N.ty value_local ∷ local (ty_ref (named 0) mut (pointee S.row.written)) value_local ∷ local (beside_ty D) value_local ∷ local S.ty value_local ∷ local S.ty value_local ∷ [];
     body = seq (assign (place 3 []) (rv_opd (copy (place 1 (deref S.ty ∷ [])))))
         (seq (call (fn₀ g) (copy (place 3 []) ∷ []) (place 2 []))
-        (seq (assign (place 1 (deref S.ty ∷ [])) (rv_opd (copy (place 2 (field 1 ∷ [])))))
-        (seq (assign (place 0 []) (rv_opd (copy (place 2 (field 0 ∷ []))))) return)));
+        (seq (assign (place 4 []) (rv_opd (copy (place 2 (field 1 ∷ [])))))
+        (seq (assign (place 1 (deref S.ty ∷ [])) (rv_opd (copy (place 4 []))))
+        (seq (assign (place 0 []) (rv_opd (copy (place 2 (field 0 ∷ []))))) return))));
   }
 
   abbrev pub ended : Ended
@@ -113,25 +114,26 @@ module _ (S N : Value) (D : Beside N S) (F : S.row.Denot → D.row.Denot) (g : S
           qed 𝓛 ((‵ (flft κ q) ⊛ ‵ ftrue) ∷ ‵ (owns (MutRef (named 0) κ S.row ∷ []) x at) ∷ []) ∵ split ! $ move ! (2 ∷ []) $ fsplit ! $ fsplit3 ! $ drop ! $ move ! (0 ∷ 1 ∷ 3 ∷ []) $
           -- [obs; the borrow; the token; …]
           enter ! C Λ function (vptr b o ∷ []) _ $
-          alloc1 ! (λ l₀. alloc1 ! (λ l₁. alloc1 ! (λ l₂. alloc1 ! (λ l₃. alloc0 ! $ params1 ! $ pass1 ! (init ! 4 refl (tt, tt)) $ pass0 ! $
-          move ! (8 ∷ 9 ∷ 10 ∷ []) $ takes_out ! tt S {h = h} b o (λ is.
-          -- [the cell; what the state owns; the open borrow; obs; auth; _3; …; _2; …; _1; …; room for _0; …]
-          assigns ! (of_opd ! (load ! (from ! (hop ! (look ! 9 refl) (stop !))) (look_raw ! 0 refl))) (from ! (stop !)) (init ! 5 refl (typed 𝓛 S h (S.val h) is)) $
+          alloc1 ! (λ l₀. alloc1 ! (λ l₁. alloc1 ! (λ l₂. alloc1 ! (λ l₃. alloc1 ! (λ l₄. alloc0 ! $ params1 ! $ pass1 ! (init ! 6 refl (tt, tt)) $ pass0 ! $
+          move ! (10 ∷ 11 ∷ 12 ∷ []) $ takes_out ! tt S {h = h} b o (λ is.
+          -- [the cell; what the state owns; the open borrow; obs; auth; _4; …; _3; …; _2; …; _1; …; room for _0; …]
+          assigns ! (of_opd ! (load ! (from ! (hop ! (look ! 11 refl) (stop !))) (look_raw ! 0 refl))) (from ! (stop !)) (init ! 7 refl (typed 𝓛 S h (S.val h) is)) $
           move ! (1 ∷ []) $ use1 𝓛 (raw ((Core 𝓛).pre to_core)) goes_core $
-          calls_at ! fm (Core 𝓛) known to_core (and_then ! (load ! (from ! (stop !)) (look ! 5 refl)) (no_more !)) (λ v.
+          calls_at ! fm (Core 𝓛) known to_core (and_then ! (load ! (from ! (stop !)) (look ! 7 refl)) (no_more !)) (λ v.
           use1 𝓛 (later (some (λ (r : D.row.Denot). (‵ ftrue ⊛ ‵ (D.row.own_val r (v ∷ []))) ⊛ raw (ensured 𝓛 core_ended (core_clauses 𝓤) tt (h, tt) tt r)))) (id⊢ 𝓤 _) $ await ! tt $ pick ! (λ r.
           split ! $ move ! (1 ∷ []) $ use1 𝓛 (raw (fact 𝓤 (r ≡ F h))) (told r) $ heard ! (r ≡ F h) (λ e. split ! $ drop ! $
           peeks ! D.row (Is D.row) (shows 𝓛 D.row) r (v ∷ []) (λ is'. drop ! $
-          -- [the cell; the open borrow; obs; auth; _3; …; room for _2; …; _1; …; room for _0; …]
-          land ! (from ! (stop !)) (init ! 6 refl (beside_typed 𝓛 D r v is')) $
-          rewrite ! 6 (λ (u : Val). ‵ (fat full_share (beside_ty D) l₂ 0 u)) (ap only (D.tells r _ is')) refl $
-          assigns ! (of_opd ! (load ! (from ! (fld ! refl (stop !))) (look_in ! 6 (sub ! 1 refl (whole !))))) (from ! (hop ! (look ! 8 refl) (stop !))) (store_raw ! 0 refl (typed 𝓛 S (D.state r) _ (D.state_is r _ is'))) $
-          assigns ! (of_opd ! (load ! (from ! (fld ! refl (stop !))) (look_in ! 6 (sub ! 0 refl (whole !))))) (from ! (stop !)) (init ! 10 refl (typed 𝓛 N (D.answer r) _ (D.answer_is r _ is'))) $
+          -- [the cell; the open borrow; obs; auth; _4; …; _3; …; room for _2; …; _1; …; room for _0; …]
+          land ! (from ! (stop !)) (init ! 8 refl (beside_typed 𝓛 D r v is')) $
+          rewrite ! 8 (λ (u : Val). ‵ (fat full_share (beside_ty D) l₂ 0 u)) (ap only (D.tells r _ is')) refl $
+          assigns ! (of_opd ! (load ! (from ! (fld ! refl (stop !))) (look_in ! 8 (sub ! 1 refl (whole !))))) (from ! (stop !)) (init ! 4 refl (typed 𝓛 S (D.state r) _ (D.state_is r _ is'))) $
+          assigns ! (of_opd ! (load ! (from ! (stop !)) (look ! 4 refl))) (from ! (hop ! (look ! 10 refl) (stop !))) (store_raw ! 0 refl (typed 𝓛 S (D.state r) _ (D.state_is r _ is'))) $
+          assigns ! (of_opd ! (load ! (from ! (fld ! refl (stop !))) (look_in ! 8 (sub ! 0 refl (whole !))))) (from ! (stop !)) (init ! 12 refl (typed 𝓛 N (D.answer r) _ (D.answer_is r _ is'))) $
           puts_back ! tt S (D.state r) b o (D.state_is r _ is') $
-          -- [obs; the borrow; the token; _3; …; _2; …; _1; …; _0; …]
-          returns ! (look ! 9 refl) $ forget ! 3 refl $ forget ! 5 refl $ forget ! 7 refl $ forget ! 9 refl $
-          move ! (9 ∷ 10 ∷ []) $ free1 ! $ move ! (7 ∷ 8 ∷ []) $ free1 ! $ move ! (5 ∷ 6 ∷ []) $ free1 ! $ move ! (3 ∷ 4 ∷ []) $ free1 ! $ free0 ! $
-          keep ! (0 ∷ 1 ∷ 2 ∷ []) $ by ! (exits r e (D.answer_is r _ is')))))))))))
+          -- [obs; the borrow; the token; _4; …; _3; …; _2; …; _1; …; _0; …]
+          returns ! (look ! 11 refl) $ forget ! 3 refl $ forget ! 5 refl $ forget ! 7 refl $ forget ! 9 refl $ forget ! 11 refl $
+          move ! (11 ∷ 12 ∷ []) $ free1 ! $ move ! (9 ∷ 10 ∷ []) $ free1 ! $ move ! (7 ∷ 8 ∷ []) $ free1 ! $ move ! (5 ∷ 6 ∷ []) $ free1 ! $ move ! (3 ∷ 4 ∷ []) $ free1 ! $ free0 ! $
+          keep ! (0 ∷ 1 ∷ 2 ∷ []) $ by ! (exits r e (D.answer_is r _ is'))))))))))))
 
   module _ {M : Type 1} {𝓤 : Ura M} (𝓛 : Logic 𝓤) where
     open 𝓛 use {H}

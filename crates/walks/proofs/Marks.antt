@@ -18,7 +18,7 @@ use Rattle.scheme.specs.declared.access.AccessType.TheVariants.{Fetch, Load, Sto
 use Rattle.scheme.specs.declared.Format.{Format}
 use Rattle.walker.specs.Descent.{descent_in}
 use Rattle.walker.specs.declared.End.{End}
-use Rattle.walker.proofs.Ends.{Read, OfPage, of_page, whole, met_leaf, met_at}
+use Rattle.walker.proofs.Ends.{Read, OfPage, of_page, whole, met_leaf, met_at_lem}
 use Rattle.walk.specs.Answer.{mark_of, mark_in, marked_by}
 use Rattle.walk.specs.Verdict.{end_judged, judge_of, verdict_in}
 use Rattle.walk.specs.declared.Access.{Access}
@@ -68,6 +68,7 @@ mark_fits Load w q h = a_fits w q h (digit_of_lem 6 w)
 mark_fits Store w q h = d_fits (with_bit 6 w) q (a_fits w q h (digit_of_lem 6 w)) (digit_of_lem 7 (with_bit 6 w))
 
 mark_fits_in : (n : ℕ) (kind : AccessType) (w : ℕ) → 0 < n → w < 256 ^ n → mark_of kind w < 256 ^ n
+mark_fits_in Prim.Native.Nat.zero kind w p h = elim p [ ]
 mark_fits_in (suc m) kind w p h = rw (pow-succ' 256 m) (mark_fits kind w (256 ^ m) (rw (pow-succ' 256 m) at h))
 
 equal? : (a b : ℕ) → Dec (a ≡ b)
@@ -122,6 +123,6 @@ module _ (f : Format) (o : Sound f) (ram : List ℕ) (small : Bytes ram) (q : Ac
   walk_same offset ws root =
       marked_same _ _ (descent_in f ram q.vaddr offset ws root).end
       (whole f Marked ram q.vaddr offset ws root (of_page f Marked ram q.vaddr offset
-      (λ t s w x y e. (met_leaf f ram s _ x y e, subst (λ (n : ℕ). f.bytes ∣ n) (met_at f ram s _ x y e) (entry_aligned f o q.vaddr t s w)))
+      (λ t s w x y e. (met_leaf f ram s _ x y e, subst (λ (n : ℕ). f.bytes ∣ n) (met_at_lem f ram s _ x y e) (entry_aligned f o q.vaddr t s w)))
       ws 0 root))
       _ refl

@@ -14,8 +14,8 @@ pub returns-in_default : goal.returns-in_default
 returns-in_default c = search rules
 
 -- what the test says of the entry and the access
-test_is : (c : After-struct_known-1) → c.before.is_IsStore.result && not c.in-Found.e.dirty ≡ is_store c.args.q.kind && not c.in-Found.e.dirty
-test_is c = ap (λ (b : Bool). b && not c.in-Found.e.dirty) c.before.is_IsStore.ensures
+test_is : (c : After-struct_known-1) → c.is_store.result && not c.in-Found.e.dirty ≡ is_store c.args.q.kind && not c.in-Found.e.dirty
+test_is c = ap (λ (b : Bool). b && not c.in-Found.e.dirty) c.is_store.ensures
 
 pub is_store-requires : goal.is_store-requires
 is_store-requires c = search rules

@@ -19,4 +19,4 @@ pub overflow_cast-mask_bits : goal.overflow_cast-mask_bits
 overflow_cast-mask_bits c = search rules
 
 pub returns : goal.returns
-returns c = rw (c.before.is_IsStore.ensures, c.with_low-vpn.ensures, c.shr64.ensures, c.bits_above-class.ensures.0, cleared_low)
+returns c = rw (c.is_store-dirty.ensures, c.with_low-vpn.ensures, c.shr64.ensures, c.bits_above-class.ensures.0, cleared_low)

@@ -51,7 +51,7 @@ pub returns-then-permits-open_to : goal.returns-then-permits-open_to
 returns-then-permits-open_to c =
     let a = c.args in
     ap₂ served (c.ok_at.ensures ∙ ap (λ (n : ℕ). ok_at 0 n a.m.tlb.config.hit_latency) (c.build_paddr-paddr.ensures ∙ ap (λ (f : Format). physical_of f a.e.ppn (a.m.scheme.offset_bits + a.e.mask_bits) a.q.vaddr) c.format.ensures)) c.counted.ensures
-    ∙ found_hit_lem a.m a.q a.e (sym (permitted (goal.at.returns-then-permits-open_to c).Then-permits-open_to) ∙ c.before.before.before.before.before.before.if1.true)
+    ∙ found_hit_lem a.m a.q a.e (sym (permitted (goal.at.returns-then-permits-open_to c).After-open_to) ∙ c.if-permits-open_to.true)
 
 pub fault-requires : goal.fault-requires
 fault-requires c = search rules

@@ -13,4 +13,4 @@ wrapping_add_u64-f-requires c = search rules
 
 pub returns : goal.returns
 unfolding tallied
-returns c = rw (c.wrapping_add_u64-h.ensures, c.wrapping_add_u64-s.ensures, c.wrapping_add_u64-f.ensures)
+returns c = rw (c.wrapping_add_u64-h.ensures.value, c.wrapping_add_u64-s.ensures.value, c.wrapping_add_u64-f.ensures.value)

@@ -1,4 +1,5 @@
 -- `put_entries`: the entries put and those that are left are all (`Entries`).
+use borrow.Author.Rules.{rules}
 use Prim.Native.Nat.{◌-◌, ◌≤◌, ◌<◌}
 use native.Mathlib.Omega.{arith}
 use mathlib.Core.Path.{◌≡◌}
@@ -11,7 +12,7 @@ use Rattle.entry_image.proofs.put_entries.Goals as goal
 
 -- the array has 128 elements
 long : (s : Start) → length s.args.es ≡ 128
-long s = s.well_formed.1.1.0.1.0.1
+long s = search rules
 
 pub loop-i-init : goal.loop-i-init
 loop-i-init c = (omega arith, Going.start c.args.out.now c.args.at (entries_image c.args.es))

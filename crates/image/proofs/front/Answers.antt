@@ -8,7 +8,7 @@ use Rattle.image.proofs.front.Goals as goal
 
 -- there are four widths
 widths : (s : Start) → length s.args.s.level_bits ≡ 4
-widths s = simp length-map at s.well_formed.1.1.0.1.1.1.0.1.0.1
+widths s = search rules
 
 pub policy_number-policy-requires : goal.policy_number-policy-requires
 policy_number-policy-requires c = search rules

@@ -11,10 +11,10 @@ use Rattle.image.proofs.put_state.Goals as goal
 
 -- the arrays have their lengths
 four : (s : Start) → length s.args.m.tlb.superpage_masks ≡ 4
-four s = simp length-map at s.well_formed.0.1.1.0.1.1.1.1.1.1.1.1.1.1.0.1.0.1
+four s = search rules
 
 hands : (s : Start) → length s.args.m.tlb.clock_hands ≡ 128
-hands s = simp length-map at s.well_formed.0.1.1.0.1.1.1.0.1.0.1
+hands s = search rules
 
 pub returns-then-out-lt3416 : goal.returns-then-out-lt3416
 unfolding put_state

@@ -10,7 +10,7 @@ use Rattle.slots.proofs.best_slot.Goals as goal
 
 -- the array has 128 elements
 long : (s : Start) → length s.args.es ≡ 128
-long s = s.well_formed.0.1.0.1
+long s = search rules
 
 pub offset_bounds-es-start : goal.offset_bounds-es-start
 offset_bounds-es-start c = omega arith

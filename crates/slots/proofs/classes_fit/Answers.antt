@@ -12,7 +12,7 @@ use Rattle.slots.proofs.classes_fit.Goals as goal
 
 -- the array has 128 elements
 long : (s : Start) → length s.args.es ≡ 128
-long s = s.well_formed.0.1.0.1
+long s = search rules
 
 pub loop-i-init : goal.loop-i-init
 unfolding classes_fit

@@ -11,7 +11,7 @@ use Rattle.slots.proofs.flush_slots.Goals as goal
 
 -- the array has 128 elements
 long : (s : Start) → length s.args.es ≡ 128
-long s = s.well_formed.0.1.0.1
+long s = search rules
 
 pub loop-k-init : goal.loop-k-init
 loop-k-init c = (search rules, rw map_none)

@@ -49,7 +49,7 @@ pub returns : goal.returns
 returns c =
     let a = c.args in
     let k = is_valid_now (goal.at.returns c).Else-not-is_valid in
-    fit_by a.m _ _ k c.if-t-levels.false c.fits2.ensures
+    fit_by a.m _ _ k c.if-t-levels.false c.fits.ensures
     (c.same_classes-same.ensures
     ∙ ap (λ (x : LeafMasks). alike (take a.m.scheme.levels a.m.tlb.superpage_masks) (take a.m.scheme.levels x.masks)) c.leaf_masks-c.ensures
     ∙ ap (λ (x : List ℕ). alike (take a.m.scheme.levels a.m.tlb.superpage_masks) (take a.m.scheme.levels x)) (masks_are a.m.scheme k)

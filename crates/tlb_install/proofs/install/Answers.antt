@@ -17,7 +17,7 @@ set_for-set-requires c = search rules
 
 -- the array has 128 elements
 long : (s : Start) → length s.args.t.entries ≡ 128
-long s = sym (length-map s.args.t.entries _) ∙ s.well_formed.0.1.1.0.1.0.1
+long s = search rules
 
 -- the set is one of the sets, so its slots lie in the array
 set_below : (c : After-set_for-set) → c.set_for-set.result < c.args.t.sets

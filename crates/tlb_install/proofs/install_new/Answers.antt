@@ -8,7 +8,7 @@ use Rattle.tlb_install.proofs.install_new.Goals as goal
 
 -- the array has 128 elements
 long : (s : Start) → length s.args.t.entries ≡ 128
-long s = sym (length-map s.args.t.entries _) ∙ s.well_formed.0.1.1.0.1.0.1
+long s = search rules
 
 pub overflow_add-start : goal.overflow_add-start
 overflow_add-start c = omega arith

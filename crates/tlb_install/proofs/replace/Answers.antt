@@ -10,7 +10,7 @@ use Rattle.tlb_install.proofs.replace.Goals as goal
 
 -- the array has 128 elements
 long : (s : Start) → length s.args.t.entries ≡ 128
-long s = sym (length-map s.args.t.entries _) ∙ s.well_formed.0.1.1.0.1.0.1
+long s = search rules
 
 pub is_clock-requires : goal.is_clock-requires
 is_clock-requires c = tt
@@ -20,16 +20,16 @@ clock_victim-v-requires c = search rules
 
 pub store_over-requires : goal.store_over-requires
 store_over-requires c =
-    rw c.clock-victim.ensures (lt_of_lt_of_le (clock_in_lem c.args.set c.args.start c.args.ways (cache_of c.args.t) c.requires.2) c.requires.1)
+    rw c.clock_victim-v.ensures (lt_of_lt_of_le (clock_in_lem c.args.set c.args.start c.args.ways (cache_of c.args.t) c.requires.2) c.requires.1)
 
 pub returns-then-is_clock : goal.returns-then-is_clock
 unfolding replace_in victim_in
 returns-then-is_clock c =
     rw (
       c.store_over.ensures,
-      c.before.clock-victim.ensures,
-      ← c.before.before.before.is-clock.ensures,
-      c.before.before.if1.true,
+      c.clock_victim-v.ensures,
+      ← c.is_clock.ensures,
+      c.if-is_clock.true,
     )
 
 pub quiet_victim-at-requires : goal.quiet_victim-at-requires

@@ -17,4 +17,4 @@ bounds-u-i c = omega arith
 
 pub returns : goal.returns
 unfolding store_at
-returns c = rw (c.fresh-f.ensures, c.wrapping_add_u32-age.ensures)
+returns c = rw (c.fresh-f.ensures, c.wrapping_add_u32-age.ensures.value)

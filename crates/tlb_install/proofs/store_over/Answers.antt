@@ -20,4 +20,4 @@ bounds-u-i c = omega arith
 
 pub returns : goal.returns
 unfolding store_at evicted
-returns c = rw (c.fresh-f.ensures, c.wrapping_add_u32-age.ensures, c.wrapping_add_u64-n.ensures)
+returns c = rw (c.fresh-f.ensures, c.wrapping_add_u32-age.ensures.value, c.wrapping_add_u64-n.ensures.value)

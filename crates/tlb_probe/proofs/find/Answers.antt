@@ -23,19 +23,19 @@ set_for-set-requires c = search rules
 
 -- there is room for four classes
 long : (s : Start) → length s.args.t.superpage_masks ≡ 4
-long s = sym (length-map s.args.t.superpage_masks _) ∙ s.well_formed.0.1.1.1.1.1.1.1.1.1.1.0.1.0.1
+long s = search rules
 
 -- the class's set is one of the sets, so its slots lie in the array
 slots_below : (c : After-set_for-set) → let w = c.ways_of-ways.result in c.set_for-set.result * w + w ≤ 128
 slots_below c =
     rw c.ways_of-ways.ensures
-    (set_end c.args.t c.requires.0 _ (rw c.set_for-set.ensures (mod-lt _ c.requires.0.some)))
+    (set_end c.args.t c.requires.geo _ (rw c.set_for-set.ensures (mod-lt _ c.requires.geo.some)))
 
 -- one class more: what was looked for decides, or the next class
-stepped : (c : After-first_slot-s) → let a = c.args in let k = c.loop-k.k in find_from (shape_of a.t1) (slice 0 a.t1.mask_count a.t1.superpage_masks) a.vpn a.asid a.t1.entries ≡ or_slot c.first_slot-s.result (find_from (shape_of a.t1) (slice (k + 1) a.t1.mask_count a.t1.superpage_masks) a.vpn a.asid a.t1.entries)
+stepped : (c : After-first_slot-s) → let a = c.args in let k = c.loop-k.k in find_from (shape_of a.t) (slice 0 a.t.mask_count a.t.superpage_masks) a.vpn a.asid a.t.entries ≡ or_slot c.first_slot-s.result (find_from (shape_of a.t) (slice (k + 1) a.t.mask_count a.t.superpage_masks) a.vpn a.asid a.t.entries)
 stepped c =
     let l = c.loop-k in
-    let m : c.args.t.mask_count ≤ length c.args.t.superpage_masks = rw (long (goal.at.HERE c).Start) c.requires.1 in
+    let m : c.args.t.mask_count ≤ length c.args.t.superpage_masks = let four : length c.args.t.superpage_masks ≡ 4 = search rules in rw four c.requires.mask_count_bound in
     l.invariant.1 ∙ rw (
       find_step (shape_of c.args.t) c.args.t.superpage_masks _ _ _ c.args.t.entries l.k (search rules) m,
       c.first_slot-s.ensures,

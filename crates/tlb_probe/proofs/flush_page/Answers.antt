@@ -22,13 +22,13 @@ set_for-set-requires c = search rules
 
 -- there is room for four classes
 long : (s : Start) → length s.args.t.superpage_masks ≡ 4
-long s = sym (length-map s.args.t.superpage_masks _) ∙ s.well_formed.0.1.1.1.1.1.1.1.1.1.1.0.1.0.1
+long s = search rules
 
 -- the class's set is one of the sets, so its slots lie in the array
 slots_below : (c : After-set_for-set) → c.set_for-set.result * c.ways_of-ways.result + c.ways_of-ways.result ≤ 128
 slots_below c =
     rw c.ways_of-ways.ensures
-    (set_end c.args.t c.requires.0 _ (rw c.set_for-set.ensures (mod-lt _ c.requires.0.some)))
+    (set_end c.args.t c.requires.geo _ (rw c.set_for-set.ensures (mod-lt _ c.requires.geo.some)))
 
 pub overflow_mul-set : goal.overflow_mul-set
 overflow_mul-set c = omega (arith, slots_below c)
@@ -45,7 +45,7 @@ loop-k-smaller c = omega arith
 pub loop-k-preserved : goal.loop-k-preserved
 loop-k-preserved c =
     let l = c.loop-k in
-    let m : c.args.t.mask_count ≤ length c.args.t.superpage_masks = rw (long (goal.at.loop-k-preserved c).Start) c.requires.1 in (
+    let m : c.args.t.mask_count ≤ length c.args.t.superpage_masks = rw (long (goal.at.loop-k-preserved c).Start) c.requires.mask_count_bound in (
       omega arith,
       l.invariant.1 ∙ rw (
         clear_step _ c.args.t.superpage_masks _ _ l.u.entries l.k (search rules) m,

@@ -9,7 +9,7 @@ use Rattle.tlb_probe.proofs.probe.Goals as goal
 
 -- the array has 128 elements
 long : (s : Start) → length s.args.t.entries ≡ 128
-long s = sym (length-map s.args.t.entries _) ∙ s.well_formed.0.1.1.0.1.0.1
+long s = search rules
 
 pub find-s-requires : goal.find-s-requires
 find-s-requires c = search rules
@@ -26,7 +26,7 @@ returns-in_default c = rw (sym c.find-s.ensures ∙ c.in_default.is)
 
 pub touch-requires : goal.touch-requires
 touch-requires c =
-    found_below c.args.t c.requires.0 (long (goal.at.touch-requires c).Start) _ _ _ _ (sym c.find-s.ensures ∙ c.in-At.is)
+    found_below c.args.t c.requires.geo (long (goal.at.touch-requires c).Start) _ _ _ _ (sym c.find-s.ensures ∙ c.in-At.is)
 
 pub returns : goal.returns
 unfolding tlb_probe probe_in

@@ -23,4 +23,4 @@ bounds-u-i-2 c = omega arith
 
 pub returns : goal.returns
 unfolding touch_at
-returns c = rw (c.touched-e.ensures, c.wrapping_add_u32-age.ensures)
+returns c = rw (c.touched-e.ensures, c.wrapping_add_u32-age.ensures.value)

@@ -8,9 +8,6 @@ use Rattle.walk_cases.proofs.walked.Goals as goal
 pub slice_bounds-walked-end : goal.slice_bounds-walked-end
 slice_bounds-walked-end c = search rules
 
-pub slice_bounds-walked-end-then-n-ram : goal.slice_bounds-walked-end-then-n-ram
-slice_bounds-walked-end-then-n-ram c = sym (length-take-le _ _ (slice-relend-prefix-walked (goal.at.slice_bounds-walked-end-then-n-ram c).Then-n-ram))
-
 pub asked-requires : goal.asked-requires
 asked-requires c = search rules
 
