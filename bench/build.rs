@@ -1,4 +1,4 @@
-// Links the static library that `rt staticlib timed` writes at the root of the repository.
+// Links the static library that `tools/build timed` writes at the root of the repository.
 fn main() {
     let folder = concat!(env!("CARGO_MANIFEST_DIR"), "/../target/staticlib");
     println!("cargo:rustc-link-search=native={folder}");

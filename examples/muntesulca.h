@@ -1,4 +1,4 @@
-/* muntesulca.h: the functions of the static library (rt staticlib ffi, target/staticlib/libffi.a, x86-64).
+/* muntesulca.h: the functions of the static library (crate ffi_c; tools/build ffi writes target/staticlib/libffi.a, x86-64).
  *
  * Numbers and bytes alone. A slice is a pointer and its length; no call keeps a pointer, slices of one call must not overlap, and a
  * pointer is never null, also where the length is 0. No function allocates, prints or stops the program, and each answers for every

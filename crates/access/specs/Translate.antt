@@ -18,7 +18,6 @@ use Rattle.walk.specs.declared.Access.{Access}
 use Rattle.walk.specs.declared.LeafAt.{LeafAt}
 use Rattle.walk.specs.declared.WalkResult.{WalkResult}
 use Rattle.walk.specs.declared.Verdict.{Verdict}
-use Rattle.walk.specs.declared.Verdict.TheVariants as Verdict
 use Rattle.entry.specs.declared.TlbEntry.{TlbEntry}
 use Rattle.tlb.specs.State.{tlb_probe, tlb_install}
 use Rattle.tlb.specs.declared.Tlb.{Tlb}

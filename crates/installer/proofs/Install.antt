@@ -15,7 +15,6 @@ use Rattle.scheme.specs.declared.PagingScheme.{PagingScheme}
 use Rattle.scheme.specs.declared.refusal.Refusal.{Refusal}
 use Rattle.scheme.specs.declared.refusal.Refusal.TheVariants.{BadScheme, RootUnaligned, TopTableOutside, BadFlags, NoRoom}
 use Rattle.scheme.specs.declared.refusal.Said.{Said}
-use Rattle.scheme.specs.declared.refusal.Said.TheVariants as Said
 use Rattle.plan.specs.declared.PageMapSpec.{PageMapSpec}
 use Rattle.plan.specs.declared.Plan.{Plan}
 use Rattle.plan.specs.declared.Window.{Window}

@@ -1,5 +1,5 @@
 -- Under the absolute rule the sum along the path is the address, cut down to the leaf's page.
-use Prim.Native.Nat.{ℕ, zero, suc, ◌+◌, ◌-◌, ◌*◌, ◌/◌, ◌%◌, ◌^◌, ◌≤◌, ◌<◌}
+use Prim.Native.Nat.{ℕ, zero, suc, ◌+◌, ◌*◌, ◌/◌, ◌%◌, ◌^◌, ◌≤◌, ◌<◌}
 use native.Mathlib.Omega.{arith}
 use native.Mathlib.Nat.{div-add-mod', add-mul, mul_assoc, zero-mul, div-eq_of_lt}
 use mathlib.Core.Path.{◌≡◌, refl, sym, ap, ◌∙◌}

@@ -6,7 +6,6 @@ use Rattle.scheme.specs.declared.refusal.Refusal.TheVariants.{TopTableOutside, B
 use Rattle.scheme.specs.declared.refusal.Asked.{Asked}
 use Rattle.scheme.specs.declared.refusal.Asked.TheVariants.{Is, Refused}
 use Rattle.scheme.specs.declared.refusal.Said.{Said}
-use Rattle.scheme.specs.declared.refusal.Said.TheVariants as Said
 
 abbrev pub number_of : Refusal → ℕ
 -- the scheme is not valid, or a level asked about is not below its count

@@ -1,5 +1,6 @@
-// What only the benchmark calls, by `timed_c`: a list of accesses and flushes on a state's image, with each access through the host's call, and the same by
-// value. It is no part of the published library. The state goes by value from one record to the next, and is lent by a local at each access.
+// What only the benchmark calls, by `timed_c`: a list of accesses and flushes on a state's image, with each access through the host's call, and
+// the same by value. It is no part of the published library. The state goes by value from one record to the next, and is lent by a local at each
+// access.
 #![tactic(auto)]
 
 ghost use Rattle.std.specs.Prelude.{◌≡◌, ◌*◌, ◌≤◌, length};

@@ -1,8 +1,8 @@
 -- What makes a contract a promise: it asks nothing, and no second answer satisfies it. It is said of what the checker makes of a function's
--- own text, and not of a copy:
+-- own text, in the crate's `specs.contracts`, and not of a copy:
 --     ended      its signature, and which parameters are spoken of at exit
 --     clauses    its `requires` and `ensures`
---     spec       the contract that it is proved to meet
+--     spec       the contract that it is proved to meet: its `Statement` says so, in the crate's `proofs`
 use Rattle.std.specs.Prelude.{◌≡◌}
 use seplogic.Ra.Ura.{Ura}
 use base.Logic.{SProp, ent, emp}
@@ -15,7 +15,7 @@ use denote.Triple.Entry.{Args, Res}
 use denote.Triple.Spec.{Spec}
 use denote.Triple.Clauses.{Ended, Clauses, ClausesAt, Lasts, at_exit, closing}
 
--- a contract is read in any model of the logic, over any memory and any routines
+-- a contract is read in any model of the logic, with the logic's laws there, over any memory and any routines
 abbrev pub InEach : ((M : Type 1) → Ura M → Type 2) → Type 2
 InEach X = (M : Type 1) (𝓤 : Ura M) → (𝓛 : Logic 𝓤) → (Memory → SProp 𝓤) → (Routine → Fun 𝓤) → X M 𝓤
 

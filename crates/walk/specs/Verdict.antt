@@ -9,7 +9,6 @@ use Rattle.walker.specs.declared.Reason.{Reason}
 use Rattle.walker.specs.declared.Reason.TheVariants.{NoRight, Privilege}
 use Rattle.walker.specs.declared.Descent.{Descent}
 use Rattle.walker.specs.declared.End.{End}
-use Rattle.walker.specs.declared.End.TheVariants as End
 use Rattle.walk.specs.Rights.{allows, open_to}
 use Rattle.walk.specs.declared.Access.{Access}
 use Rattle.walk.specs.declared.LeafAt.{LeafAt}

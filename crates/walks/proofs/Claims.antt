@@ -15,7 +15,6 @@ use Rattle.scheme.specs.declared.Format.{Format}
 use Rattle.scheme.specs.declared.PagingScheme.{PagingScheme}
 use Rattle.scheme.proofs.Widths.{Valid, valid}
 use Rattle.walker.specs.Descent.{seek, top_ok, descent_in, descent_of}
-use Rattle.walker.specs.declared.End.TheVariants as End
 use Rattle.walker.proofs.Ends.{Read, OfPage, whole_read, ends_within}
 use Rattle.walk.specs.Verdict.{judge_of, verdict_in, walk_of}
 use Rattle.walk.specs.Answer.{words_of}

@@ -1,6 +1,6 @@
 -- Marks change no walk: where two RAMs differ in A and D bits of aligned words alone, every walk ends alike in both.
 -- For every format whose entry size divides a page and the address space.
-use Prim.Native.Nat.{ℕ, ◌+◌, ◌-◌, ◌/◌, ◌%◌, ◌^◌, ◌<◌, ◌∣◌}
+use Prim.Native.Nat.{ℕ, ◌+◌, ◌/◌, ◌%◌, ◌^◌, ◌<◌, ◌∣◌}
 use native.Mathlib.Nat.{dvd-add, dvd-mul_right, dvd-mul_left_of_dvd, dvd-mod_iff}
 use native.Mathlib.Omega.{arith}
 use mathlib.Core.Path.{◌≡◌, refl, sym, ap, ◌∙◌}

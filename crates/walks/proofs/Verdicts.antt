@@ -7,7 +7,6 @@ use Rattle.walker.specs.Descent.{top_ok}
 use Rattle.walker.specs.declared.Reason.{Reason}
 use Rattle.walker.specs.declared.Descent.{Descent}
 use Rattle.walker.specs.declared.End.{End}
-use Rattle.walker.specs.declared.End.TheVariants as End
 use Rattle.walk.specs.Answer.{words_of}
 use Rattle.walk.specs.Verdict.{fault_if, leaf_judged, end_judged, judge_of}
 use Rattle.walk.specs.declared.Access.{Access}

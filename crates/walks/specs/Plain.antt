@@ -5,7 +5,6 @@ use Rattle.scheme.specs.declared.Format.{Format}
 use Rattle.walker.specs.Descent.{ended}
 use Rattle.walker.specs.declared.Descent.{Descent}
 use Rattle.walker.specs.declared.End.{End}
-use Rattle.walker.specs.declared.End.TheVariants as End
 use Rattle.walk.specs.declared.Verdict.{Verdict}
 use Rattle.walk.specs.declared.Verdict.TheVariants.{Page, Fault}
 

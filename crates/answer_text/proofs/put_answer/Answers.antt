@@ -42,4 +42,4 @@ shape_of-out-in-Refused c = search rules
 
 pub returns-in-Refused : goal.returns-in-Refused
 returns-in-Refused c =
-    rw c.in-Refused.is (within (omega arith) k.Put-refused.ensures)
+    rw c.in-Refused.is (within (omega arith) c.put_refused.ensures)

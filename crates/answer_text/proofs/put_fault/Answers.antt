@@ -18,4 +18,4 @@ shape_of-out c = search rules
 
 pub returns : goal.returns
 returns c =
-    within (omega arith) (then v.put-hex.ensures (then t.put_small.ensures c.put_bytes.ensures))
+    within (omega arith) (then c.put_hex-a.ensures (then c.put_small-b.ensures c.put_bytes.ensures))

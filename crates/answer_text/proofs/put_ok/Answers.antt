@@ -25,5 +25,5 @@ shape_of-out c = search rules
 pub returns : goal.returns
 returns c =
     within (omega arith)
-    (then v.put-hex.ensures
-    (then b.put-bytes.ensures (then p.put-hex2.ensures (then t.put_small.ensures c.put_bytes.ensures))))
+    (then c.put_hex-a.ensures
+    (then c.put_bytes-b.ensures (then c.put_hex-c.ensures (then c.put_small-d.ensures c.put_bytes.ensures))))

@@ -33,7 +33,7 @@ unfolding map_text map_end map_mmu
 returns-in-Refused c =
     let i = c.install-said.ensures in
     let e = sym i.0 ∙ c.in-Refused.is in
-    (sym (end_refused e _ _), i.1 ∙ refused_map c.args.p.settings.scheme c.args.p.map c.args.ram.now e ∙ sym (end_refused e _ _), as_text (sym (text_refused e _)) (within (omega arith) c.before.before.Put-refused.ensures))
+    (sym (end_refused e _ _), i.1 ∙ refused_map c.args.p.settings.scheme c.args.p.map c.args.ram.now e ∙ sym (end_refused e _ _), as_text (sym (text_refused e _)) (within (omega arith) c.put_refused-at.ensures))
 
 pub shape_of-ram-in-Granted : goal.shape_of-ram-in-Granted
 shape_of-ram-in-Granted c = search rules

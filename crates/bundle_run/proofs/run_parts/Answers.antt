@@ -31,7 +31,7 @@ returns-in-Refused c =
     let e = c.in-Refused.is in (
       sym (end_refused e _ _),
       ap (sets _ 0) (sym (end_refused e _ _)),
-      as_text (sym (text_refused e _)) (within (omega (arith, room_refused e c.args.p.count)) c.before.before.Put-refused.ensures),
+      as_text (sym (text_refused e _)) (within (omega (arith, room_refused e c.args.p.count)) c.put_refused-at.ensures),
     )
 
 pub shape_of-ram : goal.shape_of-ram

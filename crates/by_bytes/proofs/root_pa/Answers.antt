@@ -29,11 +29,11 @@ overflow_cast-result c = search rules
 pub returns-in-Is : goal.returns-in-Is
 unfolding asked_number
 returns-in-Is c =
-    let h = sym (rw c.scheme_at-s.ensures at c.root_pa-told.ensures) ∙ c.told.given.1 in
+    let h = sym (rw c.scheme_at-s.ensures at c.root_pa-told.ensures) ∙ c.in-Is.is in
     rw c.if-scheme-ne6.false (sym (ap asked_number h))
 
 pub returns-in-Refused : goal.returns-in-Refused
 unfolding asked_number
 returns-in-Refused c =
-    let h = sym (rw c.scheme_at-s.ensures at c.root_pa-told.ensures) ∙ c.told2.given.1 in
+    let h = sym (rw c.scheme_at-s.ensures at c.root_pa-told.ensures) ∙ c.in-Refused.is in
     rw (c.if-scheme-ne6.false, h, c.number.ensures)

@@ -1,5 +1,4 @@
 -- `entries_in`: what is stored and the entries that are left are all (`Entries`).
-use Prim.Native.Nat.{◌-◌}
 use native.Mathlib.Omega.{arith}
 use mathlib.Core.Path.{sym, ◌∙◌}
 use lib.ListN.{replicate, length-replicate}

@@ -1,6 +1,6 @@
 -- `put_entries`: the entries put and those that are left are all (`Entries`).
 use borrow.Author.Rules.{rules}
-use Prim.Native.Nat.{◌-◌, ◌≤◌, ◌<◌}
+use Prim.Native.Nat.{◌≤◌, ◌<◌}
 use native.Mathlib.Omega.{arith}
 use mathlib.Core.Path.{◌≡◌}
 use lib.ListN.{length}

@@ -1,5 +1,4 @@
 -- `put_le`: what is stored and the bytes that are left, stored behind, are all n (`Bytes`).
-use Prim.Native.Nat.{◌-◌}
 use native.Mathlib.Omega.{arith}
 use mathlib.Core.Path.{sym, ap, ◌∙◌}
 use lib.ListN.{length}

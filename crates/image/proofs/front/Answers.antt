@@ -1,6 +1,6 @@
 -- `front`: the bytes one by one.
 use mathlib.Core.Path.{◌≡◌}
-use lib.ListN.{length, length-map}
+use lib.ListN.{length}
 use Rattle.image.proofs.Words.{four}
 use borrow.Author.Rules.{rules}
 use Rattle.image.proofs.front.Goals.{Start}

@@ -1,5 +1,7 @@
 -- `put_head`: its five parts in a row.
 use native.Mathlib.Omega.{arith}
+use mathlib.Core.Path.{◌≡◌}
+use lib.ListN.{length}
 use Rattle.writer.proofs.Puts.{then, within, as_text, kept}
 use Rattle.image.specs.Image.{head_image}
 use borrow.Author.Rules.{rules}
@@ -31,10 +33,11 @@ put_le-c-requires c = search rules
 
 pub put_le-d-requires : goal.put_le-d-requires
 put_le-d-requires c =
+    let long : length c.front-bytes.result ≡ 14 = search rules in
     omega (
       arith,
       c.requires,
-      c.front-bytes.type-inv.1.0.1,
+      long,
       c.put_le-a.ensures.room,
       c.put_bytes-b.ensures.room,
       c.put_le-c.ensures.room,
@@ -48,10 +51,11 @@ slice_bounds-put_words-end c = search rules
 
 pub put_words-requires : goal.put_words-requires
 put_words-requires c =
+    let long : length c.front-bytes.result ≡ 14 = search rules in
     omega (
       arith,
       c.requires,
-      c.front-bytes.type-inv.1.0.1,
+      long,
       c.put_le-a.ensures.room,
       c.put_bytes-b.ensures.room,
       c.put_le-c.ensures.room,
@@ -68,6 +72,7 @@ shape_of-out c = search rules
 pub returns : goal.returns
 unfolding head_image
 returns c =
+    let long : length c.front-bytes.result ≡ 14 = search rules in
     let front = as_text (rw c.switches-on.ensures at c.front-bytes.ensures) c.put_bytes-b.ensures in
-    within (omega (arith, c.front-bytes.type-inv.1.0.1))
+    within (omega (arith, long))
     (then c.put_le-a.ensures (then front (then c.put_le-c.ensures (then c.put_le-d.ensures c.put_words.ensures))))

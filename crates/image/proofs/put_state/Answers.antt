@@ -1,7 +1,7 @@
 -- `put_state`: its four parts in a row, where there is room.
 use native.Mathlib.Omega.{arith}
 use mathlib.Core.Path.{◌≡◌, sym}
-use lib.ListN.{length, length-map}
+use lib.ListN.{length}
 use borrow.Author.Tests.{le-leb, lt-leb}
 use Rattle.writer.proofs.Puts.{then, kept}
 use Rattle.image.specs.Image.{image_of, put_state}

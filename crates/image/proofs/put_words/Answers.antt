@@ -1,5 +1,4 @@
 -- `put_words`: the numbers put and those that are left are all (`Words`).
-use Prim.Native.Nat.{◌-◌}
 use native.Mathlib.Omega.{arith}
 use Rattle.writer.proofs.Going as Going
 use Rattle.image.specs.Image.{words_image}

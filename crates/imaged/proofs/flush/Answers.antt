@@ -18,4 +18,4 @@ shape_of-image c = search rules
 
 pub returns : goal.returns
 returns c =
-    called_good _ _ _ refl i.state-in.ensures c.flush-k.ensures c.keep.ensures
+    called_good _ _ _ refl c.state_in-got.ensures c.flush-k.ensures c.keep.ensures

@@ -43,6 +43,6 @@ shape_of-image c = search rules
 pub returns-in-Granted-said : goal.returns-in-Granted-said
 unfolding kept_in on_grant
 returns-in-Granted-said c =
-    let e = t.enum-told3.given.1 in
-    let g = t.before.before.enum-told2.given.1 in
+    let e = c.in-Granted-said.is in
+    let g = c.in-Granted.is in
     (rw g (sym (number_granted e)), rw (g, e) c.put_state.ensures.1)

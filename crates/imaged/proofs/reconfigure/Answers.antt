@@ -34,6 +34,6 @@ returns c =
     _
     _
     (sym c.config_given.ensures ∙ not-false _ c.if-not-config_given.false-raw)
-    i.state-in.ensures
+    c.state_in-got.ensures
     (rw c.config_at-c.ensures at c.reconfigure-k.ensures)
     c.keep.ensures

@@ -29,6 +29,6 @@ returns c =
     _
     _
     (eq-eqb _ _ c.if-scheme-ne6.false)
-    i.state-in.ensures
+    c.state_in-got.ensures
     (rw c.scheme_at-s.ensures at c.set_scheme-k.ensures)
     c.keep.ensures

@@ -18,4 +18,4 @@ shape_of-out c = search rules
 pub returns : goal.returns
 returns c =
     let e = le-ltb _ _ c.if-out-lt11.false in
-    (rw e (ap Wrote (text_end p.Put-refused.ensures)), rw e p.Put-refused.ensures.bytes)
+    (rw e (ap Wrote (text_end c.put_refused-at.ensures)), rw e c.put_refused-at.ensures.bytes)

@@ -28,7 +28,7 @@ shape_of-out-in-Refused c = search rules
 
 pub returns-in-Refused : goal.returns-in-Refused
 returns-in-Refused c =
-    records_refused z.args.image.now z.args.records.now z.args.ram.now (sym c.opened-k.ensures.0 ∙ c.in-Refused.is) z.args.out.now c.put_refusal.ensures.0 c.put_refusal.ensures.1
+    records_refused c.args.image.now c.args.records.now c.args.ram.now (sym c.opened-k.ensures.0 ∙ c.in-Refused.is) c.args.out.now c.put_refusal.ensures.0 c.put_refusal.ensures.1
 
 pub shape_of-image-in-Granted : goal.shape_of-image-in-Granted
 shape_of-image-in-Granted c = search rules
@@ -42,4 +42,4 @@ shape_of-out-in-Granted c = search rules
 pub returns-in-Granted : goal.returns-in-Granted
 returns-in-Granted c =
     let h = rw c.opened-k.ensures.1 at c.run_granted.ensures in
-    records_granted z.args.image.now z.args.records.now z.args.ram.now (sym c.opened-k.ensures.0 ∙ c.in-Granted.is) z.args.out.now h.0 h.1 h.2 h.3
+    records_granted c.args.image.now c.args.records.now c.args.ram.now (sym c.opened-k.ensures.0 ∙ c.in-Granted.is) c.args.out.now h.0 h.1 h.2 h.3

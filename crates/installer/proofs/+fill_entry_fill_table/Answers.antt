@@ -1,7 +1,7 @@
 -- The filling pair: a leaf is written in its place, or a pointer, and the child's stretch is filled by one level down; a table is filled entry by entry.
-use Rattle.std.proofs.Common.{◌≡◌, ℕ, ◌+◌, ◌-◌, ◌<◌, true, List, length, sym, subst, ◌∙◌, arith, rules}
+use Rattle.std.proofs.Common.{ℕ, ◌+◌, ◌-◌, ◌<◌, length, sym, subst, ◌∙◌, arith}
 use Rattle.plan.specs.Levels.{entries}
-use Rattle.installer.proofs.Filled.{next_below, is_child, child_room, child_falls, child, leaf_filled, part_room, child_filled, Turn, turn_start, turn_next, turn_end}
+use Rattle.installer.proofs.Filled.{next_below, is_child, child_room, child_falls, leaf_filled, part_room, child_filled, Turn, turn_start, turn_next, turn_end}
 use Rattle.installer.proofs.+fill_entry_fill_table.Goals as goal
 
 pub fill_entry-alloc_table-c-requires : goal.fill_entry-alloc_table-c-requires

@@ -1,5 +1,5 @@
 -- `store`: from the first byte up, writing what is left comes to writing the word.
-use Prim.Native.Nat.{◌+◌, ◌-◌, ◌≤◌}
+use Prim.Native.Nat.{◌+◌, ◌≤◌}
 use mathlib.Core.Path.{◌≡◌}
 use lib.ListN.{length}
 use Rattle.memory.specs.Word.{put_at}

@@ -2,7 +2,7 @@
 use Rattle.std.proofs.Common.{◌≡◌, ℕ, ◌+◌, true, sym, ap, subst, ◌∙◌, arith}
 use Rattle.plan.specs.declared.Plan.{Plan}
 use Rattle.plan.specs.Levels.{At, Entry, base_at, opens_at, room_at}
-use Rattle.plan.proofs.Laws.{is_valid, child_at}
+use Rattle.plan.proofs.Laws.{child_at}
 use Rattle.plan.proofs.Rooms.{room_fits, room_start, room_step, room_end, room_open, room_shut}
 use Rattle.plan.proofs.+entry_room_room_below.Goals as goal
 

@@ -1,8 +1,5 @@
 -- `replay::print_run` is safe: what `run` has written lies in its buffer.
-use mathlib.Core.Path.{sym}
-use lib.Seq.{length-take-le}
 use borrow.Author.Rules.{rules}
-use Rattle.replay.proofs.print_run.Goals.{In-Wrote}
 use Rattle.replay.proofs.print_run.Goals as goal
 
 pub slice_bounds-run-end : goal.slice_bounds-run-end
@@ -25,9 +22,6 @@ returns-in_default c = search rules
 
 pub slice_bounds-out-end : goal.slice_bounds-out-end
 slice_bounds-out-end c = c.run-ran.ensures.3 _ c.in-Wrote.is
-
-pub slice_bounds-write_all-end : goal.slice_bounds-write_all-end
-slice_bounds-write_all-end c = sym (length-take-le _ _ (array-share-prefix-out (goal.at.slice_bounds-write_all-end c).In-Wrote))
 
 pub write_all-requires : goal.write_all-requires
 write_all-requires c = search rules

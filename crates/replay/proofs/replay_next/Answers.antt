@@ -1,8 +1,5 @@
 -- `replay::replay_next` is safe: the part of the buffer that it lends is as long as the bundle.
-use mathlib.Core.Path.{sym}
-use lib.Seq.{length-take-le}
 use borrow.Author.Rules.{rules}
-use Rattle.replay.proofs.replay_next.Goals.{Else-length-gt56861}
 use Rattle.replay.proofs.replay_next.Goals as goal
 
 pub next_length-word-requires : goal.next_length-word-requires
@@ -22,9 +19,6 @@ returns-then-length-gt56861 c = search rules
 
 pub slice_bounds-file-end : goal.slice_bounds-file-end
 slice_bounds-file-end c = search rules
-
-pub slice_bounds-replay_sized-end : goal.slice_bounds-replay_sized-end
-slice_bounds-replay_sized-end c = sym (length-take-le _ _ (array-borrow-prefix-file (goal.at.slice_bounds-replay_sized-end c).Else-length-gt56861))
 
 pub replay_sized-requires : goal.replay_sized-requires
 replay_sized-requires c = search rules

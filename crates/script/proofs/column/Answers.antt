@@ -1,5 +1,4 @@
 -- `script::column` is safe: it reads within the line, and cuts a number to 60 bits before the next digit.
-use Prim.Native.Nat.{◌-◌}
 use borrow.Author.Rules.{rules}
 use Rattle.script.proofs.column.Goals as goal
 

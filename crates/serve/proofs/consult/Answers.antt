@@ -23,4 +23,4 @@ decide-lookup-requires c = search rules
 pub returns : goal.returns
 unfolding consult_of
 returns c =
-    rw (not-false c.args.m.tlb_enabled e.if1.false, c.decide-lookup.ensures, c.probe-p.ensures, c.asid_of-asid.ensures, c.before.before.before.before.before.shr64.ensures)
+    rw (not-false c.args.m.tlb_enabled c.if-not-m.false, c.decide-lookup.ensures, c.probe-p.ensures, c.asid_of-asid.ensures, c.shr64-vpn.ensures)

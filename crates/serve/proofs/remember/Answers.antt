@@ -25,15 +25,15 @@ pub made-e-requires : goal.made-e-requires
 made-e-requires c = search rules
 
 pub install-u-requires : goal.install-u-requires
-install-u-requires c = rw c.before.before.before.before.before.counted.ensures (tallied_geo 0 1 0 _ c.requires.0.geo)
+install-u-requires c = rw c.counted-n.ensures (tallied_geo 0 1 0 _ c.requires.0.geo)
 
 pub returns : goal.returns
 returns c =
     let a = c.args in
     let u = tallied 0 1 0 a.m.tlb in
-    ap (λ (n : Mmu). with_tlb n c.install-u.result) k.counted.ensures
+    ap (λ (n : Mmu). with_tlb n c.install-u.result) c.counted-n.ensures
     ∙ ap (with_tlb a.m)
     (c.install-u.ensures
-    ∙ ap (λ (n : Mmu). tlb_install n.tlb c.made-e.result) k.counted.ensures
+    ∙ ap (λ (n : Mmu). tlb_install n.tlb c.made-e.result) c.counted-n.ensures
     ∙ ap (tlb_install u) (c.made-e.ensures ∙ ap (λ (n : ℕ). made_with a.m.scheme.offset_bits n a.q a.r) c.asid_of.ensures))
-    ∙ ap (kept_as a.m a.q a.r) (sym (not-false a.m.tlb_enabled e.if1.false))
+    ∙ ap (kept_as a.m a.q a.r) (sym (not-false a.m.tlb_enabled c.if-not-m.false))

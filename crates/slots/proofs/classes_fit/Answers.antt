@@ -1,6 +1,6 @@
 -- What was found so far, and the rest from i on, give the whole.
 use borrow.Author.Rules.{rules}
-use Prim.Native.Nat.{◌≤◌, ◌<◌, ◌-◌}
+use Prim.Native.Nat.{◌≤◌, ◌<◌}
 use mathlib.Core.Path.{◌≡◌, refl}
 use mathlib.Core.Bool.{and_assoc, and-true}
 use native.Mathlib.Omega.{arith}

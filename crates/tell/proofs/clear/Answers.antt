@@ -1,5 +1,4 @@
 -- `tell::clear` is safe: RAM keeps its length.
-use Prim.Native.Nat.{◌-◌}
 use lib.ListN.{length-set}
 use borrow.Author.Rules.{rules}
 use Rattle.tell.proofs.clear.Goals as goal

@@ -18,4 +18,4 @@ shape_of-out c = search rules
 
 pub returns : goal.returns
 returns c =
-    within (omega arith) (then b.put-bytes.ensures (then h.put-hex.ensures c.put_bytes.ensures))
+    within (omega arith) (then c.put_bytes-a.ensures (then c.put_hex-b.ensures c.put_bytes.ensures))

@@ -13,17 +13,17 @@ overflow_cast-number c = search rules
 
 pub put_told-a-requires : goal.put_told-a-requires
 put_told-a-requires c =
-    omega (arith, refusal_digits n.number.result c.args.why n.number.ensures)
+    omega (arith, refusal_digits c.number-number.result c.args.why c.number-number.ensures)
 
 pub put_bytes-requires : goal.put_bytes-requires
 put_bytes-requires c =
-    omega (arith, refusal_digits n.number.result c.args.why n.number.ensures)
+    omega (arith, refusal_digits c.number-number.result c.args.why c.number-number.ensures)
 
 pub shape_of-out : goal.shape_of-out
 shape_of-out c = search rules
 
 pub returns : goal.returns
 returns c =
-    rw (← n.number.ensures)
-    (within (omega (arith, refusal_digits n.number.result c.args.why n.number.ensures))
-    (then t.put-told.ensures c.put_bytes.ensures))
+    rw (← c.number-number.ensures)
+    (within (omega (arith, refusal_digits c.number-number.result c.args.why c.number-number.ensures))
+    (then c.put_told-a.ensures c.put_bytes.ensures))

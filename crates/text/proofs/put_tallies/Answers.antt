@@ -25,6 +25,6 @@ shape_of-out c = search rules
 pub returns : goal.returns
 returns c =
     within (omega arith)
-    (then hits.put-tally.ensures
-    (then misses.put-tally2.ensures
-    (then faults.put-tally3.ensures (then evictions.put-tally4.ensures c.put_bytes.ensures))))
+    (then c.put_tally-a.ensures
+    (then c.put_tally-b.ensures
+    (then c.put_tally-c.ensures (then c.put_tally-d.ensures c.put_bytes.ensures))))

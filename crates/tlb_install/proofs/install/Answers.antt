@@ -1,6 +1,5 @@
 -- The set is one of the sets, so its slots lie in the array; then the slot that answers, or a new one.
 use Rattle.std.proofs.Common.{◌≡◌, ◌+◌, ◌*◌, ◌<◌, ◌≤◌, length, sym, ◌∙◌, lt_of_lt_of_le, mod-lt, arith, rules}
-use lib.ListN.{length-map}
 use Rattle.slots.proofs.SlotLaws.{first_below}
 use Rattle.tlb.specs.Cache.{slot_of, install_in}
 use Rattle.tlb.specs.State.{shape_of, tlb_install}

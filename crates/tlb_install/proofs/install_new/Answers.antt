@@ -1,6 +1,5 @@
 -- The free slot, or the victim's, by what the search answers.
 use Rattle.std.proofs.Common.{◌≡◌, ◌+◌, ◌≤◌, length, sym, ◌∙◌, lt_of_lt_of_le, arith, rules}
-use lib.ListN.{length-map}
 use Rattle.slots.proofs.SlotLaws.{first_below}
 use Rattle.tlb.specs.Cache.{install_new}
 use Rattle.tlb_install.proofs.install_new.Goals.{Start}

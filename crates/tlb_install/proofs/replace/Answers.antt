@@ -1,6 +1,5 @@
 -- Either victim is one of the set's slots; then each call is what the definition says.
-use Rattle.std.proofs.Common.{◌≡◌, ◌+◌, ◌≤◌, length, sym, ◌∙◌, lt_of_lt_of_le, rules}
-use lib.ListN.{length-map}
+use Rattle.std.proofs.Common.{◌≡◌, ◌+◌, ◌≤◌, length, lt_of_lt_of_le, rules}
 use Rattle.slots.proofs.SlotLaws.{quiet_below}
 use Rattle.tlb.specs.State.{cache_of}
 use Rattle.tlb.specs.Cache.{replace_in, victim_in}

@@ -1,6 +1,5 @@
 -- The classes from k on decide what all of them decide.
-use Rattle.std.proofs.Common.{◌≡◌, ◌+◌, ◌-◌, ◌*◌, ◌≤◌, length, sym, refl, ◌∙◌, mod-lt, arith, rules}
-use lib.ListN.{length-map}
+use Rattle.std.proofs.Common.{◌≡◌, ◌+◌, ◌*◌, ◌≤◌, length, refl, ◌∙◌, mod-lt, arith, rules}
 use lib.Seq.{slice}
 use Rattle.tlb.specs.Cache.{or_slot, find_from}
 use Rattle.tlb.specs.State.{shape_of}

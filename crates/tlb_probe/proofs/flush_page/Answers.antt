@@ -1,6 +1,5 @@
 -- The classes from k on leave of the slots so far what all of them leave of the first.
-use Rattle.std.proofs.Common.{◌≡◌, ◌+◌, ◌-◌, ◌*◌, ◌≤◌, length, sym, refl, ◌∙◌, mod-lt, arith, rules}
-use lib.ListN.{length-map}
+use Rattle.std.proofs.Common.{◌≡◌, ◌+◌, ◌*◌, ◌≤◌, length, refl, ◌∙◌, mod-lt, arith, rules}
 use Rattle.tlb.specs.Cache.{flush_page_in}
 use Rattle.tlb.specs.State.{tlb_flush_page}
 use Rattle.tlb.proofs.CacheLaws.{set_end}

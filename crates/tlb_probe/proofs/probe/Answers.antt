@@ -1,6 +1,5 @@
 -- The found slot is touched; a miss changes nothing.
 use Rattle.std.proofs.Common.{◌≡◌, length, sym, ◌∙◌, rules}
-use lib.ListN.{length-map}
 use Rattle.tlb.specs.Cache.{probe_in}
 use Rattle.tlb.specs.State.{tlb_probe}
 use Rattle.tlb_probe.proofs.Classes.{found_below}

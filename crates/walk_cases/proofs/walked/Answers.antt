@@ -1,6 +1,4 @@
 -- `walk_cases::walked` is safe: the part of RAM that it lends is as long as the setting says.
-use mathlib.Core.Path.{sym}
-use lib.Seq.{length-take-le}
 use borrow.Author.Rules.{rules}
 use Rattle.walk_cases.proofs.walked.Goals.{Then-n-ram}
 use Rattle.walk_cases.proofs.walked.Goals as goal

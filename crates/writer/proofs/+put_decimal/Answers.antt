@@ -1,5 +1,5 @@
 -- `put_decimal`, which calls itself: one digit is put, or the digits before it and then the last.
-use Rattle.std.proofs.Common.{◌≤◌, ◌<◌, sym, ◌∙◌, arith}
+use Rattle.std.proofs.Common.{◌≤◌, ◌<◌, sym, arith}
 use Rattle.writer.proofs.Decimals.{decimal_one, decimal_more, length_one, length_more}
 use Rattle.writer.proofs.Puts.{then, within, as_text, kept}
 use Rattle.writer.proofs.+put_decimal.Goals as goal

@@ -1,5 +1,6 @@
 -- `kind_from`: one arm of the test each; the count passes by its bits.
 use mir.Syntax.{w32}
+use mir.Val.{SFits}
 use mir.Facts.{to_z-of_z}
 use borrow.Author.Tests.{ne_eqb}
 use borrow.Author.Rules.{rules}
@@ -12,4 +13,6 @@ pub as_signed-count-requires : goal.as_signed-count-requires
 as_signed-count-requires c = search rules
 
 pub returns : goal.returns
-returns c = rw (to_z-of_z {w = w32} (record { sfits = c.as_signed-count.type-inv }), c.as_signed-count.ensures, ne_eqb _ _ c.if-n-eq0.false)
+returns c =
+    let fits : SFits w32 c.as_signed-count.result = search rules in
+    rw (to_z-of_z {w = w32} fits, c.as_signed-count.ensures, ne_eqb _ _ c.if-n-eq0.false)

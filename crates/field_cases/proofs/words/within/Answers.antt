@@ -11,9 +11,6 @@ returns-then-ram-n c = search rules
 pub slice_bounds-store-end : goal.slice_bounds-store-end
 slice_bounds-store-end c = search rules
 
-pub slice_bounds-store-end-then-s-eq119 : goal.slice_bounds-store-end-then-s-eq119
-slice_bounds-store-end-then-s-eq119 c = sym (length-take-le _ _ (slice-relend-prefix-store (goal.at.slice_bounds-store-end-then-s-eq119 c).Then-s-eq119))
-
 pub low-requires : goal.low-requires
 low-requires c = search rules
 
@@ -31,9 +28,6 @@ returns-then-s-eq119 c = search rules
 
 pub slice_bounds-load-end : goal.slice_bounds-load-end
 slice_bounds-load-end c = search rules
-
-pub slice_bounds-load-end-2 : goal.slice_bounds-load-end-2
-slice_bounds-load-end-2 c = sym (length-take-le _ _ (slice-reshare-prefix-load (goal.at.slice_bounds-load-end-2 c).After-struct_known-1))
 
 pub low-requires-2 : goal.low-requires-2
 low-requires-2 c = search rules

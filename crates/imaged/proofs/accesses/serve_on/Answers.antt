@@ -56,9 +56,9 @@ shape_of-told c = search rules
 pub returns-in-Granted : goal.returns-in-Granted
 unfolding served_image served_told on_grant
 returns-in-Granted c =
-    let h = sym (said (goal.at.returns-in-Granted c).In-Granted-1) ∙ t.enum_told.given.1 in (
+    let h = sym (said (goal.at.returns-in-Granted c).In-Granted-1) ∙ c.in-Granted.is in (
       sym (number_granted h),
-      rw h (rw tr.translate.ensures.0 at c.put_state.ensures.1),
-      tr.translate.ensures.1,
-      rw h (rw tr.translate.ensures.0 at a.put-answer.ensures.bytes),
+      rw h (rw c.translate-s.ensures.0 at c.put_state.ensures.1),
+      c.translate-s.ensures.1,
+      rw h (rw c.translate-s.ensures.0 at c.put_answer.ensures.bytes),
     )

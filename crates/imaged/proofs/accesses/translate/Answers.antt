@@ -46,9 +46,9 @@ shape_of-image-in-Refused c = search rules
 pub returns-in-Refused : goal.returns-in-Refused
 unfolding translated_number translated_image translated_ram translated_told on_grant said_number
 returns-in-Refused c =
-    let e = le-ltb _ _ l.before.before.if1.false in
+    let e = le-ltb _ _ c.if-told-lt20.false in
     let h = sym (ap (λ (x : StateRead). x.said) c.state_in-got.ensures) ∙ c.in-Refused.is in
-    let a = l.before.before.before.before.before.before.args in
+    let a = c.args in
     let g = given_refused (access_given a.kind a.mode) (state_read a.image.now).said h in
     (rw (e, g), rw (e, g), rw (e, g), rw (e, g))
 
@@ -65,8 +65,8 @@ pub returns-in-Granted : goal.returns-in-Granted
 unfolding translated_number translated_image translated_ram translated_told on_grant
 returns-in-Granted c =
     let e = le-ltb _ _ c.if-told-lt20.false in
-    let h = sym (ap (λ (x : StateRead). x.said) i.state-in.ensures) ∙ t.enum_told.given.1 in
+    let h = sym (ap (λ (x : StateRead). x.said) c.state_in-got.ensures) ∙ c.in-Granted.is in
     let a = c.args in
     let g = given_good (access_given a.kind a.mode) (state_read a.image.now).said (sym c.access_given.ensures ∙ not-false _ c.if-not-access_given.false-raw) h in
-    let q = rw (c.access_by.ensures, i.state-in.ensures) at c.serve_on.ensures in
+    let q = rw (c.access_by.ensures, c.state_in-got.ensures) at c.serve_on.ensures in
     (rw (e, g) q.0, rw (e, g) q.1, rw (e, g) q.2, rw (e, g) q.3)

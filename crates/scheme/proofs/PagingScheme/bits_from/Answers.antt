@@ -1,5 +1,5 @@
 -- `bits_from`: the sum so far and the widths that are left come to what is asked for, from the start to the end.
-use Prim.Native.Nat.{◌≤◌, ◌-◌}
+use Prim.Native.Nat.{◌≤◌}
 use mathlib.Core.Path.{◌≡◌}
 use native.Mathlib.Omega.{arith}
 use borrow.Author.Rules.{rules}

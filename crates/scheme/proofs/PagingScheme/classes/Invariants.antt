@@ -1,6 +1,6 @@
 -- `classes`: what the levels that are left will write in front of what is written comes to all classes, from the start to
 -- the end; what is left of the bits is the sum of the widths that are left.
-use Prim.Native.Nat.{◌≤◌, ◌+◌, ◌-◌}
+use Prim.Native.Nat.{◌≤◌, ◌-◌}
 use mathlib.Core.Path.{◌≡◌}
 use mathlib.Core.List.{◌++◌}
 use lib.ListN.{length, drop}

@@ -1,9 +1,5 @@
 -- `MapKind::delta_bytes`: each arm is its clause; the count passes to `mib_bytes` by its bits.
-use mathlib.Core.Path.{ap, ◌∙◌}
-use mir.Syntax.{w32}
-use mir.Facts.{to_z-of_z}
 use borrow.Author.Rules.{rules}
-use Rattle.scheme.specs.Map.{delta}
 use Rattle.scheme.proofs.map.MapKind.delta_bytes.Goals as goal
 
 pub enum_told-1 : goal.enum_told-1
