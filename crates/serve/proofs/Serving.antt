@@ -9,7 +9,6 @@ use Rattle.scheme.specs.Satp.{asid_of}
 use Rattle.scheme.specs.Scheme.{valid_of, format_of}
 use Rattle.scheme.specs.declared.PagingScheme.{PagingScheme}
 use Rattle.walker.specs.Descent.{descent_of}
-use Rattle.walker.specs.declared.End.TheVariants as End
 use Rattle.walk.specs.Verdict.{walk_of}
 use Rattle.walk.specs.Answer.{result_of, answer_of}
 use Rattle.walk.specs.declared.Access.{Access}

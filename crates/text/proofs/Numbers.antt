@@ -16,7 +16,6 @@ use Rattle.scheme.specs.declared.access.AccessType.{AccessType}
 use Rattle.scheme.specs.declared.access.AccessType.TheVariants.{Fetch, Load, Store}
 use Rattle.walk.specs.declared.Access.{Access}
 use Rattle.walk.specs.declared.Verdict.{Verdict}
-use Rattle.walk.specs.declared.Verdict.TheVariants as Verdict
 use Rattle.entry.specs.declared.TlbEntry.{TlbEntry}
 use Rattle.tlb.specs.declared.Lookup.{Lookup}
 use Rattle.tlb.specs.declared.Lookup.TheVariants.{Found, Absent}

@@ -36,7 +36,7 @@ pub shape_of-out : goal.shape_of-out
 shape_of-out c = search rules
 
 -- the buffer once the bundle's RAM is copied in
-copied : (c : After-put_bytes) → c.put_bytes.new.0 ≡ sets c.args.ram.now 0 (given_ram c.args.file.now c.args.p)
+copied : (c : After-put_bytes) → c.put_bytes.new.out ≡ sets c.args.ram.now 0 (given_ram c.args.file.now c.args.p)
 copied c =
     let a = c.args in
     c.put_bytes.ensures.bytes ∙ ap (sets a.ram.now 0) (between a.file.now a.p.ram_start a.p.ram_len)
@@ -47,8 +47,8 @@ returns c =
     let len = c.args.p.ram_len in
     let given = given_ram c.args.file.now c.args.p in
     let long : length given ≡ len = given_length c.requires.0 in
-    let part : take len c.put_bytes.new.0 ≡ given = ap (take len) (copied (goal.at.returns c).After-put_bytes) ∙ front_part xs given len long c.requires.2 in
+    let part : take len c.put_bytes.new.out ≡ given = ap (take len) (copied (goal.at.returns c).After-put_bytes) ∙ front_part xs given len long c.requires.2 in
     let r = c.run_mapped in
-    let same : length r.new.1.1.1.0 ≡ length (take len c.put_bytes.new.0) = search rules in
+    let same : length r.new.ram ≡ length (take len c.put_bytes.new.out) = search rules in
     let end = rw part at r.ensures.1 in
-    (rw part at r.ensures.0, rw (copied (goal.at.returns c).After-put_bytes) (front_other xs given r.new.1.1.1.0 len long (same ∙ ap length part ∙ long) c.requires.2 ∙ ap (sets xs 0) end), rw part at r.ensures.2)
+    (rw part at r.ensures.0, rw (copied (goal.at.returns c).After-put_bytes) (front_other xs given r.new.ram len long (same ∙ ap length part ∙ long) c.requires.2 ∙ ap (sets xs 0) end), rw part at r.ensures.2)

@@ -18,4 +18,4 @@ shape_of-told c = search rules
 pub returns : goal.returns
 unfolding walk_told
 returns c =
-    rw (c.told-cause.ensures, c.told-place.ensures) at c.put_told.ensures
+    rw (c.told_cause-cause.ensures, c.told_place-place.ensures) at c.put_told.ensures

@@ -13,13 +13,13 @@ fits-requires c = search rules
 
 pub returns-then-not-fits : goal.returns-then-not-fits
 unfolding fit_said
-returns-then-not-fits c = rw (sym c.fits2.ensures ∙ not-true _ c.if-not-fits.true-raw)
+returns-then-not-fits c = rw (sym c.fits.ensures ∙ not-true _ c.if-not-fits.true-raw)
 
 pub is_bought-requires : goal.is_bought-requires
 is_bought-requires c = search rules
 
 fit : (c : Else-not-fits) → fit_of c.args.m ≡ true
-fit c = sym c.fits2.ensures ∙ not-false _ c.if-not-fits.false-raw
+fit c = sym c.fits.ensures ∙ not-false _ c.if-not-fits.false-raw
 
 pub returns-then-not-is_bought : goal.returns-then-not-is_bought
 unfolding fit_said

@@ -11,7 +11,7 @@ use Rattle.mmu.proofs.flush.Goals.{Else-not-fits}
 use Rattle.mmu.proofs.flush.Goals as goal
 
 is_fit : (c : Else-not-fits) → fit_of c.args.m ≡ true
-is_fit c = sym c.fits2.ensures ∙ not-false _ c.if-not-fits.false-raw
+is_fit c = sym c.fits.ensures ∙ not-false _ c.if-not-fits.false-raw
 
 pub fits-requires : goal.fits-requires
 fits-requires c = search rules
@@ -21,7 +21,7 @@ refused-requires c = search rules
 
 pub returns-then-not-fits : goal.returns-then-not-fits
 unfolding flush_of
-returns-then-not-fits c = c.refused.ensures ∙ unfit _ _ (sym c.fits2.ensures ∙ not-true _ c.if-not-fits.true-raw)
+returns-then-not-fits c = c.refused.ensures ∙ unfit _ _ (sym c.fits.ensures ∙ not-true _ c.if-not-fits.true-raw)
 
 pub flush-requires : goal.flush-requires
 flush-requires c = (fit_ready _ (is_fit (goal.at.flush-requires c).Else-not-fits)).geo

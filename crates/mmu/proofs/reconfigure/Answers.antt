@@ -10,7 +10,7 @@ use Rattle.mmu.proofs.reconfigure.Goals.{Else-not-fits, Else-not-has_room}
 use Rattle.mmu.proofs.reconfigure.Goals as goal
 
 is_fit : (c : Else-not-fits) → fit_of c.args.m ≡ true
-is_fit c = sym c.fits2.ensures ∙ not-false _ c.if-not-fits.false-raw
+is_fit c = sym c.fits.ensures ∙ not-false _ c.if-not-fits.false-raw
 
 has_room_now : (c : Else-not-has_room) → room_for c.args.config ≡ true
 has_room_now c = sym c.has_room.ensures ∙ not-false _ c.if-not-has_room.false-raw
@@ -23,7 +23,7 @@ refused-requires c = search rules
 
 pub returns-then-not-fits : goal.returns-then-not-fits
 unfolding reconfigure_of
-returns-then-not-fits c = c.refused.ensures ∙ unfit _ _ (sym c.fits2.ensures ∙ not-true _ c.if-not-fits.true-raw)
+returns-then-not-fits c = c.refused.ensures ∙ unfit _ _ (sym c.fits.ensures ∙ not-true _ c.if-not-fits.true-raw)
 
 pub has_room-requires : goal.has_room-requires
 has_room-requires c = search rules

@@ -11,7 +11,7 @@ use Rattle.mmu.proofs.set_scheme.Goals.{Else-not-fits, Else-not-is_valid}
 use Rattle.mmu.proofs.set_scheme.Goals as goal
 
 is_fit : (c : Else-not-fits) → fit_of c.args.m ≡ true
-is_fit c = sym c.fits2.ensures ∙ not-false _ c.if-not-fits.false-raw
+is_fit c = sym c.fits.ensures ∙ not-false _ c.if-not-fits.false-raw
 
 is_valid_now : (c : Else-not-is_valid) → valid_of c.args.s ≡ true
 is_valid_now c = sym c.is_valid.ensures ∙ not-false _ c.if-not-is_valid.false-raw
@@ -24,7 +24,7 @@ refused-requires c = search rules
 
 pub returns-then-not-fits : goal.returns-then-not-fits
 unfolding set_scheme_of
-returns-then-not-fits c = c.refused.ensures ∙ unfit _ _ (sym c.fits2.ensures ∙ not-true _ c.if-not-fits.true-raw)
+returns-then-not-fits c = c.refused.ensures ∙ unfit _ _ (sym c.fits.ensures ∙ not-true _ c.if-not-fits.true-raw)
 
 pub is_valid-requires : goal.is_valid-requires
 is_valid-requires c = search rules

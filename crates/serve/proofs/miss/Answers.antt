@@ -29,7 +29,7 @@ walked : (c : After-walk_valid-w) → c.walk_valid-w.result ≡ (let a = c.args 
 walked c = rw (sym c.root_of.ensures) c.walk_valid-w.ensures.0
 
 -- and so are its marks
-marks : (c : After-walk_valid-w) → (let a = c.args in c.walk_valid-w.new.1.1.0 ≡ marked_by (format_of a.m.scheme) a.q.kind a.ram.now (miss_walk a.m a.q a.ram.now))
+marks : (c : After-walk_valid-w) → (let a = c.args in c.walk_valid-w.new.ram ≡ marked_by (format_of a.m.scheme) a.q.kind a.ram.now (miss_walk a.m a.q a.ram.now))
 marks c = rw (sym c.root_of.ensures) c.walk_valid-w.ensures.1
 
 abbrev served : Answer → Mmu → Served

@@ -17,7 +17,7 @@ abbrev said_of : Mmu → Answer → Served
 said_of m a = record { said = a; mmu = m }
 
 not_passed : (k : After-consult-seen) → bypassed k.args.m k.args.q ≡ false
-not_passed k = sym k.passes.ensures ∙ k.if-passes.left
+not_passed k = sym k.passes.ensures ∙ k.if-passes.false
 
 -- what the TLB had to say is what the definition says
 looked : (k : After-consult-seen) → {l : Lookup} → k.consult-seen.result.lookup ≡ l → (consult_of k.args.m k.args.q).lookup ≡ l
