@@ -1,6 +1,5 @@
 -- `rows_ok`: the rows passed and those that are left make the whole test (`Rows`).
 -- A start is at most 2^32 for each body passed, and so no sum wraps.
-use Prim.Native.Nat.{◌-◌}
 use native.Mathlib.Omega.{arith}
 use mathlib.Core.Path.{refl, ◌∙◌}
 use Rattle.layout.proofs.Rows.{next_row, last_row}
