@@ -15,7 +15,6 @@ use Rattle.walker.specs.declared.Reason.{Reason}
 use Rattle.walker.specs.declared.Reason.TheVariants.{NoRight, Privilege}
 use Rattle.walker.specs.declared.Descent.{Descent}
 use Rattle.walker.specs.declared.End.{End}
-use Rattle.walker.specs.declared.End.TheVariants as End
 use Rattle.walk.specs.Rights.{allows, open_to}
 use Rattle.walk.specs.Answer.{marked_by, mark_in, physical_of}
 use Rattle.walk.specs.Verdict.{fault_if, leaf_judged, end_judged, judge_of, walk_of}

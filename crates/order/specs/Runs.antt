@@ -2,12 +2,10 @@
 use Rattle.std.specs.Prelude.{ℕ, List, [], ◌∷◌}
 use Rattle.scheme.specs.declared.refusal.Refusal.{Refusal}
 use Rattle.scheme.specs.declared.refusal.Said.{Said}
-use Rattle.scheme.specs.declared.refusal.Said.TheVariants as Said
 use Rattle.walk.specs.declared.Access.{Access}
 use Rattle.mmu.specs.Calls.{flush_of, flush_vaddr_of, translate_of}
 use Rattle.state.specs.declared.Mmu.{Mmu}
 use Rattle.access.specs.declared.Outcome.{Outcome}
-use Rattle.access.specs.declared.Outcome.TheVariants as Outcome
 use Rattle.session.specs.Session.{step_mmu, step_ram}
 use Rattle.session.specs.declared.Settings.{Settings}
 use Rattle.session.specs.declared.Event.{Event}

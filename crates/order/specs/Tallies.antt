@@ -6,7 +6,6 @@ use Rattle.walk.specs.declared.Verdict.TheVariants.{Page, Fault}
 use Rattle.entry.specs.declared.TlbEntry.{TlbEntry}
 use Rattle.slots.specs.Slots.{wanted_of, first_in}
 use Rattle.slots.specs.declared.Slot.{Slot}
-use Rattle.slots.specs.declared.Slot.TheVariants as Slot
 use Rattle.tlb.specs.Cache.{start_of, slot_of}
 use Rattle.tlb.specs.State.{shape_of, ways_of}
 use Rattle.tlb.specs.declared.Tlb.{Tlb}

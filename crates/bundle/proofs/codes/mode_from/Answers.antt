@@ -11,5 +11,5 @@ returns-in-1 c = rw c.in-1.is
 pub returns-in_default : goal.returns-in_default
 returns-in_default c =
     let n = c.args.n in
-    let r = c.in_default.rest in
+    let r = c.in_default.in_default-own.rest in
     simp (ne_eqb n 0 r.0.1, ne_eqb n 1 r.1)
