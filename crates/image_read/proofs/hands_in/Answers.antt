@@ -1,5 +1,4 @@
 -- `hands_in`: what is stored and the bytes that are left are all (`Arrays`).
-use Prim.Native.Nat.{◌-◌}
 use native.Mathlib.Omega.{arith}
 use mathlib.Core.Path.{◌≡◌, refl, ◌∙◌}
 use lib.ListN.{replicate}

@@ -1,5 +1,4 @@
 -- `digest`: the sum so far stays below 2^32, so that the next step fits 64 bits.
-use Prim.Native.Nat.{◌-◌}
 use borrow.Author.Rules.{rules}
 use Rattle.map_cases.proofs.digest.Goals as goal
 

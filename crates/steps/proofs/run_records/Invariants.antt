@@ -1,5 +1,4 @@
 -- `steps::run_records` meets its contract (`Half`).
-use Rattle.writer.proofs.Going as Going
 use Rattle.steps.proofs.Half.{Half}
 use Rattle.steps.proofs.run_records.Given as goal
 
