@@ -8,7 +8,6 @@ use Rattle.scheme.specs.declared.refusal.Said.TheVariants.{Granted, Refused}
 use Rattle.walk.specs.declared.Access.{Access}
 use Rattle.access.specs.declared.Answer.{Answer}
 use Rattle.access.specs.declared.Outcome.{Outcome}
-use Rattle.access.specs.declared.Outcome.TheVariants as Outcome
 use Rattle.state.specs.declared.Mmu.{Mmu}
 use Rattle.access.specs.Translate.{cause_in}
 use Rattle.mmu.specs.Calls.{translate_of, translate_ram}

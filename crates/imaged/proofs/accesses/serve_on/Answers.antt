@@ -5,7 +5,7 @@ use Rattle.access.specs.declared.Served.{Served}
 use Rattle.imaged.specs.Accesses.{outcome_said, served_said, served_image, served_told}
 use Rattle.imaged.proofs.Laws.{number_refused, number_granted}
 use borrow.Author.Rules.{rules}
-use Rattle.imaged.proofs.accesses.serve_on.Goals.{After-said_of-said, In-Granted-1}
+use Rattle.imaged.proofs.accesses.serve_on.Goals.{After-said_of-said}
 use Rattle.imaged.proofs.accesses.serve_on.Goals as goal
 
 pub translate-s-requires : goal.translate-s-requires
@@ -56,7 +56,7 @@ shape_of-told c = search rules
 pub returns-in-Granted : goal.returns-in-Granted
 unfolding served_image served_told on_grant
 returns-in-Granted c =
-    let h = sym (said (goal.at.returns-in-Granted c).In-Granted-1) ∙ c.in-Granted.is in (
+    let h = sym (said (goal.at.returns-in-Granted c).After-said_of-said) ∙ c.in-Granted.is in (
       sym (number_granted h),
       rw h (rw c.translate-s.ensures.0 at c.put_state.ensures.1),
       c.translate-s.ensures.1,
