@@ -7,10 +7,8 @@ use Rattle.scheme.specs.Scheme.{root_pa}
 use Rattle.scheme.specs.declared.refusal.Refusal.TheVariants.{BadLayout}
 use Rattle.scheme.specs.declared.refusal.Said.{Said}
 use Rattle.scheme.specs.declared.refusal.Asked.{Asked}
-use Rattle.scheme.specs.declared.refusal.Asked.TheVariants as Asked
 use Rattle.walk.specs.Answer.{walk_reply, walk_ram}
 use Rattle.walk.specs.declared.Reply.{Reply}
-use Rattle.walk.specs.declared.Reply.TheVariants as Reply
 use Rattle.walk.specs.declared.Walked.{Walked}
 use Rattle.walk.specs.declared.Walked.TheVariants.{Ok, Err}
 use Rattle.walk.specs.declared.WalkAnswer.{WalkAnswer}
