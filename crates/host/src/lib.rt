@@ -1,6 +1,6 @@
 // The host's calls: one MMU is kept for the session and lent to each call. Each takes the state out, calls the by-value
-// core, stores the state that comes back, and returns the answer. The crate `lent` has the law of each shape of call, for
-// any types.
+// core, stores the state that comes back, and returns the answer. Each is proved by a walk of its code; the walk is a law
+// of the crate `lent`, one for each shape of call.
 #![tactic(auto)]
 
 ghost use Rattle.std.specs.Prelude.{◌≡◌};

@@ -47,7 +47,8 @@ pub record Value : Type 2 where
   pub last : (x : row.Denot) → Last (row.exit yes) x
   pub silent : (x : row.Denot) (w : Last (row.exit yes) x) → left (row.exit yes) x w ≡ ftrue
 
--- ---- a declared struct and a declared enum of plain data. Of a type `X`, `the_type` is in its module, and `the_laws`, `the_plain`, `the_copy` and `mir` in the `Laws` below that
+-- ---- a declared struct and a declared enum of plain data. Of a type `X`, `the_type` is in its module of
+-- `specs.contracts`, and `the_laws`, `the_plain`, `the_copy` and `mir` in the `TheLaws` below its module of `proofs`
 module _ {X : Type 0} (e : Exit X) (still : e ≡ unchanged) where
   pub last_of : (x : X) → Last e x
   last_of x = subst (λ (e' : Exit X). Last e' x) (sym still) tt

@@ -52,4 +52,4 @@ module _ (m : Mmu) (fit : fit_of m ≡ true) where
       go false room = fit
 
 pub calls_fit : CallsFit
-calls_fit = record { new = new; set_scheme_lem = λ m s four fit. set_scheme_lem m fit s four; reconfigure = λ m c fit. reconfigure m fit c }
+calls_fit = record { new = new; set_scheme = λ m s four fit. set_scheme_lem m fit s four; reconfigure = λ m c fit. reconfigure m fit c }

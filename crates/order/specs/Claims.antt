@@ -76,7 +76,7 @@ EndBytes =
 -- refused with 3
 pub record CallsFit : Type 0 where
   pub new : (c : TlbConfig) → fit_of (new_of c).mmu ≡ true
-  pub set_scheme_lem : (m : Mmu) (s : PagingScheme) → length s.level_bits ≡ 4 → fit_of m ≡ true → fit_of (set_scheme_of m s).mmu ≡ true
+  pub set_scheme : (m : Mmu) (s : PagingScheme) → length s.level_bits ≡ 4 → fit_of m ≡ true → fit_of (set_scheme_of m s).mmu ≡ true
   pub reconfigure : (m : Mmu) (c : TlbConfig) → fit_of m ≡ true → fit_of (reconfigure_of m c).mmu ≡ true
 
 -- what a run that starts on a fit state is refused with: nothing; but "a satp mode that is neither" has every access refused with 10, "enabled
