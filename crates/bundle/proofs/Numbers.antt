@@ -79,17 +79,17 @@ pub switch_number_lem : (b : ℕ) → b ≤ 7 → flag 0 (bit 0 b) + flag 1 (bit
 switch_number_lem b h = rw (flag_bit 0 b, flag_bit 1 b, flag_bit 2 b) (omega arith)
 
 -- four digits and the quotient above them make an even number
-add-up : (b q1 q2 q3 q4 q5 d1 d2 d3 d4 : ℕ)
+add_up : (b q1 q2 q3 q4 q5 d1 d2 d3 d4 : ℕ)
     → b ≡ 2 * q1 → q1 ≡ d1 + 2 * q2 → q2 ≡ d2 + 2 * q3 → q3 ≡ d3 + 2 * q4 → q4 ≡ d4 + 2 * q5
     → 1 + d1 * 2 + d2 * 4 + d3 * 8 + d4 * 16 + q5 * 32 ≡ 1 + b
-add-up b q1 q2 q3 q4 q5 d1 d2 d3 d4 e1 e2 e3 e4 e5 = omega arith
+add_up b q1 q2 q3 q4 q5 d1 d2 d3 d4 e1 e2 e3 e4 e5 = omega arith
 
 pub flags_number : (b : ℕ) → b ≤ 63 → b % 2 ≡ 0
     → 1 + flag 1 (bit 1 b) + flag 2 (bit 2 b) + flag 3 (bit 3 b) + flag 4 (bit 4 b) + flag 5 (bit 5 b) ≡ 1 + b
 flags_number b h e =
     let top : b / 32 % 2 ≡ b / 32 = omega arith in
     rw (flag_bit 1 b, flag_bit 2 b, flag_bit 3 b, flag_bit 4 b, flag_bit 5 b, top)
-    (add-up b (b / 2) (b / 4) (b / 8) (b / 16) (b / 32) (b / 2 % 2) (b / 4 % 2) (b / 8 % 2) (b / 16 % 2)
+    (add_up b (b / 2) (b / 4) (b / 8) (b / 16) (b / 32) (b / 2 % 2) (b / 4 % 2) (b / 8 % 2) (b / 16 % 2)
     (omega arith) (omega arith) (omega arith) (omega arith) (omega arith))
 
 -- the four numbers of a record

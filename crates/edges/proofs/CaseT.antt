@@ -152,9 +152,9 @@ module _ (start : List ℕ) (bytes : Bytes start) (t : Two start 0x1F 0x0010_001
 
 -- ---- the installed words
 
-said_T : refusal_of sv32_scheme map_t window_t 4096 8192 ≡ Granted
+said_t : refusal_of sv32_scheme map_t window_t 4096 8192 ≡ Granted
 unfolding refusal_of refuse_if bought_of ok_widths total barred room_at room sum_from opens plan_of
-said_T = refl
+said_t = refl
 
 module _ (ram : List ℕ) (holds : Holds ram (table_writes (plan_of sv32_scheme map_t window_t) (widths_of sv32_scheme) 0 4096)) where
   word_first : (readable 32 4 ram 4096 ≡ true) × (le_at 4 ram 4096 ≡ 0x1F)
@@ -167,7 +167,7 @@ module _ (ram : List ℕ) (holds : Holds ram (table_writes (plan_of sv32_scheme 
 
 any_ram : (ram : List ℕ) → length ram ≡ 8192 → Bytes ram → EndsAsT ram
 any_ram ram long bytes =
-    let said : install_said sv32_scheme map_t window_t 4096 ram ≡ Granted = ap (λ (n : ℕ). refusal_of sv32_scheme map_t window_t 4096 n) long ∙ said_T in
+    let said : install_said sv32_scheme map_t window_t 4096 ram ≡ Granted = ap (λ (n : ℕ). refusal_of sv32_scheme map_t window_t 4096 n) long ∙ said_t in
     let start = installed_t ram in
     let holds = holds_all sv32_scheme map_t window_t 4096 ram said in
     let one = word_first start holds in

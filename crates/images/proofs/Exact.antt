@@ -19,10 +19,10 @@ use Rattle.images.proofs.Cut.{cut, cut_then, cut_slice, cut_whole, number_cut}
 use Rattle.images.proofs.States.{front}
 
 -- eight digits make the number
-add-up : (b q1 q2 q3 q4 q5 q6 q7 d0 d1 d2 d3 d4 d5 d6 : ℕ)
+add_up : (b q1 q2 q3 q4 q5 q6 q7 d0 d1 d2 d3 d4 d5 d6 : ℕ)
     → b ≡ d0 + 2 * q1 → q1 ≡ d1 + 2 * q2 → q2 ≡ d2 + 2 * q3 → q3 ≡ d3 + 2 * q4 → q4 ≡ d4 + 2 * q5 → q5 ≡ d5 + 2 * q6 → q6 ≡ d6 + 2 * q7
     → d0 * 1 + d1 * 2 + d2 * 4 + d3 * 8 + d4 * 16 + d5 * 32 + d6 * 64 + q7 * 128 ≡ b
-add-up b q1 q2 q3 q4 q5 q6 q7 d0 d1 d2 d3 d4 d5 d6 e0 e1 e2 e3 e4 e5 e6 = omega arith
+add_up b q1 q2 q3 q4 q5 q6 q7 d0 d1 d2 d3 d4 d5 d6 e0 e1 e2 e3 e4 e5 e6 = omega arith
 
 flags_exact : (b : ℕ) → b < 256
     → flag 0 (bit 0 b) + flag 1 (bit 1 b) + flag 2 (bit 2 b) + flag 3 (bit 3 b) + flag 4 (bit 4 b) + flag 5 (bit 5 b) + flag 6 (bit 6 b) + flag 7 (bit 7 b) ≡ b
@@ -30,7 +30,7 @@ flags_exact b h =
     let top : b / 128 % 2 ≡ b / 128 = omega arith in
     let one : b / 1 % 2 ≡ b % 2 = omega arith in
     rw (flag_bit 0 b, flag_bit 1 b, flag_bit 2 b, flag_bit 3 b, flag_bit 4 b, flag_bit 5 b, flag_bit 6 b, flag_bit 7 b, top, one)
-    (add-up b (b / 2) (b / 4) (b / 8) (b / 16) (b / 32) (b / 64) (b / 128)
+    (add_up b (b / 2) (b / 4) (b / 8) (b / 16) (b / 32) (b / 64) (b / 128)
     (b % 2) (b / 2 % 2) (b / 4 % 2) (b / 8 % 2) (b / 16 % 2) (b / 32 % 2) (b / 64 % 2)
     (omega arith) (omega arith) (omega arith) (omega arith) (omega arith) (omega arith) (omega arith))
 

@@ -27,4 +27,4 @@ none_but_ten es m ram fit = record {
 }
 
 pub tallies_add_up : TalliesAddUp
-tallies_add_up = tallies.add-up
+tallies_add_up = tallies.add_up

@@ -56,15 +56,15 @@ module _ (s : Settings) (start : List ℕ) where
   all_byte (q ∷ l) ram small =
       ap (all_marks s start l) (earned_byte q ram small) ∙ all_byte l (byte_earned s start q ram) (earned_bytes q ram small)
 
-  all-permᴰ : {l n : List Access} → Permᴰ l n → (ram : List ℕ) → byte_all l ram ≡ byte_all n ram
+  all_permᴰ : {l n : List Access} → Permᴰ l n → (ram : List ℕ) → byte_all l ram ≡ byte_all n ram
   unfolding byte_all
-  all-permᴰ Permᴰ.nil ram = refl
-  all-permᴰ (Permᴰ.cons {a = a} {b = b} {l₁ = l} {l₂ = n} e p) ram = rw e (all-permᴰ p (byte_earned s start b ram))
-  all-permᴰ (Permᴰ.swap {a = a} {b = b} {l = l} e f) ram = rw (← e, ← f) (ap (byte_all l) (earned_comm s start b a ram))
-  all-permᴰ (Permᴰ.trans p q) ram = all-permᴰ p ram ∙ all-permᴰ q ram
+  all_permᴰ Permᴰ.nil ram = refl
+  all_permᴰ (Permᴰ.cons {a = a} {b = b} {l₁ = l} {l₂ = n} e p) ram = rw e (all_permᴰ p (byte_earned s start b ram))
+  all_permᴰ (Permᴰ.swap {a = a} {b = b} {l = l} e f) ram = rw (← e, ← f) (ap (byte_all l) (earned_comm s start b a ram))
+  all_permᴰ (Permᴰ.trans p q) ram = all_permᴰ p ram ∙ all_permᴰ q ram
 
   all_perm : {l n : List Access} → Perm l n → (ram : List ℕ) → byte_all l ram ≡ byte_all n ram
-  all_perm p ram = ∥∥₁_elim p (is_set (hedberg ℕ_discrete) _ _) (λ d. all-permᴰ d ram)
+  all_perm p ram = ∥∥₁_elim p (is_set (hedberg ℕ_discrete) _ _) (λ d. all_permᴰ d ram)
 
   -- ---- one run
 

@@ -280,7 +280,7 @@ sums (FlushAt va ∷ es) m ram fit =
     let r = subst (λ (st : TlbStats). Sums st es m' (step_ram (FlushAt va) m ram)) same (sums es m' _ (event_fit m fit ram (FlushAt va))) in
     record { hits = r.hits; misses = r.misses; accesses = r.accesses; faults = r.faults; evictions = r.evictions }
 
-pub add-up : TalliesAddUp
-add-up es m ram fit =
+pub add_up : TalliesAddUp
+add_up es m ram fit =
     let r = sums es m ram fit in
     record { hits = r.hits; misses = r.misses; accesses = r.accesses; faults = r.faults; evictions = r.evictions }

@@ -88,16 +88,16 @@ answer_line va (Refused r) = refused_line r
 -- ---- case T's lines, and a refusal
 
 -- `003ffffc ok 003ffffc 1`
-case_T_ok : answer_line 0x3ffffc (Ok (record { paddr = 0x3ffffc; stall = 1 }))
+case_t_ok : answer_line 0x3ffffc (Ok (record { paddr = 0x3ffffc; stall = 1 }))
     ≡ 48 ∷ 48 ∷ 51 ∷ 102 ∷ 102 ∷ 102 ∷ 102 ∷ 99 ∷ 32 ∷ 111 ∷ 107 ∷ 32 ∷ 48 ∷ 48 ∷ 51 ∷ 102 ∷ 102 ∷ 102 ∷ 102 ∷ 99 ∷ 32 ∷ 49 ∷ 10 ∷ []
 unfolding hex_digits decimal_in
-case_T_ok = refl
+case_t_ok = refl
 
 -- `00000000 fault 13`
-case_T_fault : answer_line 0 (Err (record { cause = 13; vaddr = 0 }))
+case_t_fault : answer_line 0 (Err (record { cause = 13; vaddr = 0 }))
     ≡ 48 ∷ 48 ∷ 48 ∷ 48 ∷ 48 ∷ 48 ∷ 48 ∷ 48 ∷ 32 ∷ 102 ∷ 97 ∷ 117 ∷ 108 ∷ 116 ∷ 32 ∷ 49 ∷ 51 ∷ 10 ∷ []
 unfolding hex_digits decimal_in
-case_T_fault = refl
+case_t_fault = refl
 
 -- `refused 8`
 refused_8 : refused_line BadLayout ≡ 114 ∷ 101 ∷ 102 ∷ 117 ∷ 115 ∷ 101 ∷ 100 ∷ 32 ∷ 56 ∷ 10 ∷ []
@@ -105,7 +105,7 @@ unfolding decimal_in
 refused_8 = refl
 
 -- `hits 2 misses 3 faults 1 evictions 0`
-case_T_tallies : tallies_line (record { hits = 2; misses = 3; evictions = 0; page_faults = 1 })
+case_t_tallies : tallies_line (record { hits = 2; misses = 3; evictions = 0; page_faults = 1 })
     ≡ 104 ∷ 105 ∷ 116 ∷ 115 ∷ 32 ∷ 50 ∷ 32 ∷ 109 ∷ 105 ∷ 115 ∷ 115 ∷ 101 ∷ 115 ∷ 32 ∷ 51 ∷ 32 ∷ 102 ∷ 97 ∷ 117 ∷ 108 ∷ 116 ∷ 115 ∷ 32 ∷ 49 ∷ 32 ∷ 101 ∷ 118 ∷ 105 ∷ 99 ∷ 116 ∷ 105 ∷ 111 ∷ 110 ∷ 115 ∷ 32 ∷ 48 ∷ 10 ∷ []
 unfolding decimal_in
-case_T_tallies = refl
+case_t_tallies = refl

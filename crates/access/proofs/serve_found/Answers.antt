@@ -10,7 +10,7 @@ use Rattle.state.specs.declared.Mmu.{Mmu}
 use Rattle.access.specs.declared.Answer.{Answer}
 use Rattle.access.specs.declared.Served.{Served}
 use Rattle.access.proofs.Entries.{found_hit_lem, found_fault_lem}
-use Rattle.access.proofs.serve_found.Goals.{After-open_to, Then-permits-open_to}
+use Rattle.access.proofs.serve_found.Goals.{After-open_to}
 use Rattle.access.proofs.serve_found.Goals as goal
 
 abbrev served : Answer → Mmu → Served

@@ -5,7 +5,7 @@ use Rattle.tlb.specs.Cache.{or_slot, find_from}
 use Rattle.tlb.specs.State.{shape_of}
 use Rattle.tlb.proofs.CacheLaws.{set_end}
 use Rattle.tlb_probe.proofs.Classes.{find_none, find_step}
-use Rattle.tlb_probe.proofs.find.Goals.{After-first_slot-s, After-set_for-set, Start}
+use Rattle.tlb_probe.proofs.find.Goals.{After-first_slot-s, After-set_for-set}
 use Rattle.tlb_probe.proofs.find.Goals as goal
 
 pub ways_of-ways-requires : goal.ways_of-ways-requires
@@ -20,10 +20,6 @@ bounds-t-k c = omega arith
 pub set_for-set-requires : goal.set_for-set-requires
 set_for-set-requires c = search rules
 
--- there is room for four classes
-long : (s : Start) → length s.args.t.superpage_masks ≡ 4
-long s = search rules
-
 -- the class's set is one of the sets, so its slots lie in the array
 slots_below : (c : After-set_for-set) → let w = c.ways_of-ways.result in c.set_for-set.result * w + w ≤ 128
 slots_below c =
@@ -31,10 +27,12 @@ slots_below c =
     (set_end c.args.t c.requires.geo _ (rw c.set_for-set.ensures (mod-lt _ c.requires.geo.some)))
 
 -- one class more: what was looked for decides, or the next class
-stepped : (c : After-first_slot-s) → let a = c.args in let k = c.loop-k.k in find_from (shape_of a.t) (slice 0 a.t.mask_count a.t.superpage_masks) a.vpn a.asid a.t.entries ≡ or_slot c.first_slot-s.result (find_from (shape_of a.t) (slice (k + 1) a.t.mask_count a.t.superpage_masks) a.vpn a.asid a.t.entries)
+stepped : (c : After-first_slot-s) → let a = c.args in let k = c.loop-k.k in find_from (shape_of a.t) (slice 0 a.t.mask_count a.t.superpage_masks) a.vpn a.asid a.t.entries
+    ≡ or_slot c.first_slot-s.result (find_from (shape_of a.t) (slice (k + 1) a.t.mask_count a.t.superpage_masks) a.vpn a.asid a.t.entries)
 stepped c =
     let l = c.loop-k in
-    let m : c.args.t.mask_count ≤ length c.args.t.superpage_masks = let four : length c.args.t.superpage_masks ≡ 4 = search rules in rw four c.requires.mask_count_bound in
+    let four : length c.args.t.superpage_masks ≡ 4 = search rules in
+    let m : c.args.t.mask_count ≤ length c.args.t.superpage_masks = rw four c.requires.mask_count_bound in
     l.invariant.1 ∙ rw (
       find_step (shape_of c.args.t) c.args.t.superpage_masks _ _ _ c.args.t.entries l.k (search rules) m,
       c.first_slot-s.ensures,

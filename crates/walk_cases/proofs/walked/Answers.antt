@@ -1,6 +1,5 @@
 -- `walk_cases::walked` is safe: the part of RAM that it lends is as long as the setting says.
 use borrow.Author.Rules.{rules}
-use Rattle.walk_cases.proofs.walked.Goals.{Then-n-ram}
 use Rattle.walk_cases.proofs.walked.Goals as goal
 
 pub slice_bounds-walked-end : goal.slice_bounds-walked-end

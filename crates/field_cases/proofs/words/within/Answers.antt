@@ -1,6 +1,5 @@
 -- `words::within` is safe: the part of RAM that it lends is as long as asked for.
 use borrow.Author.Rules.{rules}
-use Rattle.field_cases.proofs.words.within.Goals.{After-struct_known-1, Then-s-eq119}
 use Rattle.field_cases.proofs.words.within.Goals as goal
 
 pub returns-then-ram-n : goal.returns-then-ram-n
