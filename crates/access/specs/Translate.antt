@@ -1,5 +1,8 @@
 -- What `translate` answers, and the state and RAM that it leaves, on a fit state.
-use Rattle.std.specs.Prelude.{ℕ, ◌+◌, ◌-◌, ◌*◌, ◌/◌, ◌%◌, ◌^◌, Bool, true, false, cond, not, ◌&&◌, ◌||◌, List}
+use Rattle.std.specs.Prelude.{ℕ, ◌+◌, ◌-◌, ◌*◌, ◌/◌, ◌%◌, ◌^◌, Bool, true, false, cond, not, ◌&&◌, ◌||◌, List, Err, None, Ok, Option, Result, Some}
+use Rattle.access.specs.declared.Denied.{Denied}
+use Rattle.access.specs.declared.Place.{Place}
+use Rattle.walk.specs.declared.Fault.{Fault}
 use Rattle.pte.specs.Entry.{ppn_of}
 use Rattle.scheme.specs.Access.{cause_of}
 use Rattle.scheme.specs.Scheme.{format_of}
@@ -17,16 +20,11 @@ use Rattle.walk.specs.Answer.{marked_by, physical_of, result_of, words_of}
 use Rattle.walk.specs.declared.Access.{Access}
 use Rattle.walk.specs.declared.LeafAt.{LeafAt}
 use Rattle.walk.specs.declared.WalkResult.{WalkResult}
-use Rattle.walk.specs.declared.Verdict.{Verdict}
 use Rattle.entry.specs.declared.TlbEntry.{TlbEntry}
 use Rattle.tlb.specs.State.{tlb_probe, tlb_install}
 use Rattle.tlb.specs.declared.Tlb.{Tlb}
-use Rattle.tlb.specs.declared.Lookup.{Lookup}
-use Rattle.tlb.specs.declared.Lookup.TheVariants.{Found, Absent}
 use Rattle.state.specs.State.{with_tlb}
 use Rattle.state.specs.declared.Mmu.{Mmu}
-use Rattle.access.specs.declared.Outcome.{Outcome}
-use Rattle.access.specs.declared.Outcome.TheVariants.{Ok, Err, Refused}
 use Rattle.access.specs.declared.Answer.{Answer}
 use Rattle.access.specs.declared.Consulted.{Consulted}
 use Rattle.access.specs.declared.Served.{Served}
@@ -88,9 +86,9 @@ abbrev pub must_walk : TlbEntry → Access → Bool
 must_walk e q = is_store q.kind && not e.dirty
 
 -- an entry that answers without a walk, or nothing
-abbrev pub decides : Access → Lookup → Lookup
-decides q (Found e) = cond (must_walk e q) Absent (Found e)
-decides q Absent = Absent
+abbrev pub decides : Access → Option TlbEntry → Option TlbEntry
+decides q (Some e) = cond (must_walk e q) None (Some e)
+decides q None = None
 
 -- "With the TLB on": the probe, and the state as it leaves it
 unfoldable pub consult_of : Mmu → Access → Consulted
@@ -100,7 +98,7 @@ consult_of m q =
       lookup = decides q (tlb_probe m.tlb (vpn_of m q) (asid_of m.scheme m.satp.raw)).lookup;
       mmu = with_tlb m (tlb_probe m.tlb (vpn_of m q) (asid_of m.scheme m.satp.raw)).tlb;
     })
-    (record { lookup = Absent; mmu = m })
+    (record { lookup = None; mmu = m })
 
 -- ---- the answers
 
@@ -108,13 +106,13 @@ abbrev pub ok_at : ℕ → ℕ → ℕ → Answer
 ok_at words pa stall = record { words = words; outcome = Ok (record { paddr = pa; stall = stall }) }
 
 abbrev pub fault_of : ℕ → Access → Answer
-fault_of words q = record { words = words; outcome = Err (record { cause = cause_of q.kind; vaddr = q.vaddr }) }
+fault_of words q = record { words = words; outcome = Err (Denied.Fault (record { cause = cause_of q.kind; vaddr = q.vaddr })) }
 
 -- the cause that an outcome tells, 0 where there is none
-abbrev pub cause_in : Outcome → ℕ
+abbrev pub cause_in : Result Place Denied → ℕ
 cause_in (Ok p) = 0
-cause_in (Err f) = f.cause
-cause_in (Refused why) = 0
+cause_in (Err (Denied.Fault f)) = f.cause
+cause_in (Err (Denied.Refused why)) = 0
 
 -- "gives the same address, stall 0, nothing touched"
 abbrev pub passed_of : Mmu → Access → Served
@@ -156,28 +154,28 @@ unfoldable pub made_of : Mmu → Access → LeafAt → TlbEntry
 made_of m q l = made_with m.scheme.offset_bits (asid_of m.scheme m.satp.raw) q (result_of (format_of m.scheme) q.vaddr l)
 
 -- "All else is a miss, and a faulting walk adds a page fault"; with the TLB off nothing is installed
-unfoldable pub walk_served : Mmu → Access → Verdict → Served
-walk_served m q (Verdict.Page l) = record {
-  said = ok_at (words_of (format_of m.scheme) q.vaddr (Verdict.Page l)) (physical_of (format_of m.scheme) (ppn_of l.raw) l.shift q.vaddr) m.tlb.config.miss_penalty;
+unfoldable pub walk_served : Mmu → Access → Result LeafAt Fault → Served
+walk_served m q (Ok l) = record {
+  said = ok_at (words_of (format_of m.scheme) q.vaddr (Ok l)) (physical_of (format_of m.scheme) (ppn_of l.raw) l.shift q.vaddr) m.tlb.config.miss_penalty;
   mmu = with_tlb m
       (cond m.tlb_enabled (tlb_install (tallied 0 1 0 m.tlb) (made_of m q l)) (tallied 0 1 0 m.tlb));
 }
-walk_served m q (Verdict.Fault why level) = record {
-  said = fault_of (words_of (format_of m.scheme) q.vaddr (Verdict.Fault why level)) q;
+walk_served m q (Err stop) = record {
+  said = fault_of (words_of (format_of m.scheme) q.vaddr (Err stop)) q;
   mmu = with_tlb m (tallied 0 1 1 m.tlb);
 }
 
 -- the plain walk that a miss makes
-abbrev pub miss_walk : Mmu → Access → List ℕ → Verdict
+abbrev pub miss_walk : Mmu → Access → List ℕ → Result LeafAt Fault
 miss_walk m q ram = walk_of m.scheme (root_of m.scheme m.satp.raw) ram q
 
-abbrev pub look_served : Mmu → Access → List ℕ → Lookup → Served
-look_served m q ram (Found e) = found_served m e q
-look_served m q ram Absent = walk_served m q (miss_walk m q ram)
+abbrev pub look_served : Mmu → Access → List ℕ → Option TlbEntry → Served
+look_served m q ram (Some e) = found_served m e q
+look_served m q ram None = walk_served m q (miss_walk m q ram)
 
-abbrev pub look_ram : Mmu → Access → List ℕ → Lookup → List ℕ
-look_ram m q ram (Found e) = ram
-look_ram m q ram Absent = marked_by (format_of m.scheme) q.kind ram (miss_walk m q ram)
+abbrev pub look_ram : Mmu → Access → List ℕ → Option TlbEntry → List ℕ
+look_ram m q ram (Some e) = ram
+look_ram m q ram None = marked_by (format_of m.scheme) q.kind ram (miss_walk m q ram)
 
 -- what translate answers and leaves
 unfoldable pub served_of : Mmu → Access → List ℕ → Served

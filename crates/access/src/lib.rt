@@ -2,14 +2,14 @@
 // entry, and what a walk is remembered as.
 #![tactic(auto)]
 
-ghost use Rattle.std.specs.Prelude.{◌≡◌, ◌-◌, ◌<◌, ◌≤◌};
+ghost use Rattle.std.specs.Prelude.{◌≡◌, ◌<◌, ◌≤◌};
 ghost use Rattle.state.specs.State.{with_tlb};
-ghost use Rattle.access.specs.Translate.{is_bare, is_machine, is_store, passes_with, tallied, decides, ok_at, fault_of, found_served, made_with};
+ghost use Rattle.access.specs.Translate.{passes_with, tallied, decides, ok_at, fault_of, found_served, made_with};
 
 use entry::TlbEntry;
 use scheme::{AccessType, PagingScheme, PrivMode, Refusal, Satp, SatpMode};
 use state::Mmu;
-use tlb::{Lookup, Tlb};
+use tlb::Tlb;
 use walk::{Access, PageFault, WalkResult};
 
 // A physical address, and how long the access stalls.
@@ -19,10 +19,10 @@ pub struct Place {
     pub stall: u8,
 }
 
+// Why an access gets no address: a page fault, or a refusal of the call.
 #[derive(Clone, Copy)]
-pub enum Outcome {
-    Ok(Place),
-    Err(PageFault),
+pub enum Denied {
+    Fault(PageFault),
     Refused(Refusal),
 }
 
@@ -30,9 +30,10 @@ pub enum Outcome {
 #[derive(Clone, Copy)]
 pub struct Answer {
     pub words: u32,
-    pub outcome: Outcome,
+    pub outcome: Result<Place, Denied>,
 }
 
+// Not a Result: a refusal hands the state back too, as document 01 says.
 #[derive(Clone, Copy)]
 pub struct Served {
     pub said: Answer,
@@ -42,85 +43,44 @@ pub struct Served {
 // What the TLB has to say of an access: an entry that decides it, or nothing; and the state after the probe.
 #[derive(Clone, Copy)]
 pub struct Consulted {
-    pub lookup: Lookup,
+    pub lookup: Option<TlbEntry>,
     pub mmu: Mmu,
-}
-
-fn is_bare(mode: SatpMode) -> bool
-    ensures { result ≡ is_bare mode }
-{
-    match mode {
-        SatpMode::Bare => true,
-        SatpMode::Paged => false,
-        SatpMode::Neither => false,
-    }
-}
-
-fn is_machine(mode: PrivMode) -> bool
-    ensures { result ≡ is_machine mode }
-{
-    match mode {
-        PrivMode::U => false,
-        PrivMode::S => false,
-        PrivMode::M => true,
-    }
-}
-
-fn is_store(kind: AccessType) -> bool
-    ensures { result ≡ is_store kind }
-{
-    match kind {
-        AccessType::Fetch => false,
-        AccessType::Load => false,
-        AccessType::Store => true,
-    }
 }
 
 // Whether an access is handed its own address.
 pub fn passes(s: PagingScheme, enabled: bool, force: bool, satp: Satp, mode: PrivMode) -> bool
     ensures { result ≡ passes_with s enabled force satp.raw mode }
 {
-    let bare = is_bare(s.satp_mode(satp));
-    let machine = is_machine(mode);
-    (!enabled | bare) | (machine & !force)
+    let bare = matches!(s.satp_mode(satp), SatpMode::Bare);
+    let machine = matches!(mode, PrivMode::M);
+    !enabled || bare || (machine && !force)
 }
 
 // So many hits, misses and page faults more.
-fn tally(t: Tlb, hits: u64, misses: u64, faults: u64) -> Tlb
+#[tactic(auto, unfolding(crate::specs::Translate::tallied))]
+fn tally(mut t: Tlb, hits: u64, misses: u64, faults: u64) -> Tlb
     ensures { result ≡ tallied hits misses faults t }
 {
-    let h = std::num::wrapping_add_u64(t.stats.hits, hits);
-    let s = std::num::wrapping_add_u64(t.stats.misses, misses);
-    let f = std::num::wrapping_add_u64(t.stats.page_faults, faults);
-    let mut u = t;
-    u.stats.hits = h;
-    u.stats.misses = s;
-    u.stats.page_faults = f;
-    u
+    t.stats.hits = t.stats.hits.wrapping_add(hits);
+    t.stats.misses = t.stats.misses.wrapping_add(misses);
+    t.stats.page_faults = t.stats.page_faults.wrapping_add(faults);
+    t
 }
 
 pub fn counted(m: Mmu, hits: u64, misses: u64, faults: u64) -> Mmu
     ensures { result ≡ with_tlb m (tallied hits misses faults m.tlb) }
 {
-    let t = m.tlb;
-    let u = tally(t, hits, misses, faults);
-    let mut n = m;
-    n.tlb = u;
-    n
+    Mmu {
+        tlb: tally(m.tlb, hits, misses, faults),
+        ..m
+    }
 }
 
 // An entry that answers without a walk: a store on one that is not dirty walks, so that D is set in RAM.
-pub fn decide(found: Lookup, q: Access) -> Lookup
+pub fn decide(found: Option<TlbEntry>, q: Access) -> Option<TlbEntry>
     ensures { result ≡ decides q found }
 {
-    let Lookup::Found(e) = found else {
-        return Lookup::Absent;
-    };
-    let kind = q.kind;
-    if is_store(kind) & !e.dirty {
-        return Lookup::Absent;
-    }
-    Lookup::Found(e)
+    found.filter(|e| e.dirty || !matches!(q.kind, AccessType::Store))
 }
 
 pub fn ok_at(words: u32, paddr: u64, stall: u8) -> Answer
@@ -128,7 +88,7 @@ pub fn ok_at(words: u32, paddr: u64, stall: u8) -> Answer
 {
     Answer {
         words,
-        outcome: Outcome::Ok(Place { paddr, stall }),
+        outcome: Ok(Place { paddr, stall }),
     }
 }
 
@@ -140,11 +100,12 @@ pub fn fault(words: u32, q: Access) -> Answer
     let vaddr = q.vaddr;
     Answer {
         words,
-        outcome: Outcome::Err(PageFault { cause, vaddr }),
+        outcome: Err(Denied::Fault(PageFault { cause, vaddr })),
     }
 }
 
 // The answer of an entry that decides: a hit, or a page fault that is neither hit nor miss.
+#[tactic(auto, using(scheme::proofs::Levels::modest), unfolding(crate::specs::Translate::found_served))]
 pub fn serve_found(m: Mmu, e: TlbEntry, q: Access) -> Served
     ensures { result ≡ found_served m e q }
 {
@@ -170,10 +131,8 @@ pub fn made(offset: u8, asid: u16, q: Access, r: WalkResult) -> TlbEntry
     requires { r.page_bits < 32 }
     ensures { result ≡ made_with offset asid q r }
 {
-    let class = bits_above(r.page_bits, offset as u32);
+    let class = r.page_bits.saturating_sub(u32::from(offset));
     let vpn = bits::with_low(bits::shr64(q.vaddr, offset), 0, class);
-    let kind = q.kind;
-    let dirty = is_store(kind);
     let perms = r.perms;
     let mask_bits = class as u8;
     TlbEntry {
@@ -185,15 +144,8 @@ pub fn made(offset: u8, asid: u16, q: Access, r: WalkResult) -> TlbEntry
         valid: true,
         global: r.global,
         accessed: true,
-        dirty,
+        dirty: matches!(q.kind, AccessType::Store),
         mask_bits,
         ref_bit: false,
     }
-}
-
-// a - b, and 0 where b is the larger.
-fn bits_above(a: u32, b: u32) -> u32
-    ensures { (result ≡ a - b) × (result ≤ a) }
-{
-    if a < b { 0 } else { a - b }
 }

@@ -29,12 +29,12 @@ pub fn with_low(x: u64, y: u64, k: u32) -> u64
 pub fn shr64(x: u64, k: u8) -> u64
     ensures { result ≡ x / 2 ^ k }
 {
-    if k < 64 { x >> k } else { 0 }
+    x.checked_shr(u32::from(k)).unwrap_or(0)
 }
 
 // The field of `width` bits of x that starts at bit `at`.
 pub fn field(x: u64, at: u8, width: u8) -> u64
     ensures { (result ≡ field_of at width x) × (result < 2 ^ width) }
 {
-    low_bits(shr64(x, at), width as u32)
+    low_bits(shr64(x, at), u32::from(width))
 }

@@ -1,4 +1,5 @@
 -- Each claim of specs/Claims.antt: the layout's tests (`Fits`, `Good`), and the numbers that they let through (`Numbers`).
+use Rattle.std.specs.Prelude.{Err, None, Ok, Result, Some}
 use Prim.Native.Nat.{ℕ, ◌+◌, ◌<◌}
 use native.Mathlib.Omega.{arith}
 use mathlib.Core.Path.{◌≡◌, refl, sym}
@@ -9,25 +10,25 @@ use lib.ListN.{get_or}
 use borrow.Author.Tests.{eqb-true, eqb-false, leb-true}
 use Rattle.memory.specs.Word.{le_at}
 use Rattle.memory.proofs.Laws.{word_lt}
+use Rattle.scheme.specs.declared.refusal.Refusal.{Refusal}
+use Rattle.scheme.specs.declared.refusal.Refusal.TheVariants.{BadLayout}
 use Rattle.plan.specs.Map.{flags_of}
 use Rattle.layout.specs.Layout.{byte_at, map_len, unused_ok, settings_ok, flag_bits_ok, map_ok, good_of}
 use Rattle.layout.proofs.Fits.{good_fits}
 use Rattle.layout.proofs.Good.{good_settings, good_map, good_record}
-use Rattle.scheme.specs.declared.refusal.Said.TheVariants.{Granted}
 use Rattle.bundle.specs.declared.Parts.{Parts}
-use Rattle.bundle.specs.declared.MapPart.TheVariants.{None, Map}
-use Rattle.bundle.specs.Parts.{body_at, parts_of, answer, read_of}
+use Rattle.bundle.specs.Parts.{body_at, parts_of, read_of}
 use Rattle.bundle.specs.Claims.{GrantedIsGood, PartsInside, SettingsAsGiven, map_numbers, given_map, MapAsGiven, EventsAsGiven}
 use Rattle.bundle.proofs.Numbers.{policy_number_lem, rule_number_lem, kind_number_lem, mib_number_lem}
 use Rattle.bundle.proofs.Numbers.{switch_number_lem, flags_number, event_numbers_lem}
 
-granted_if : (b : Bool) (p : Parts) → (answer b p).said ≡ Granted → (b ≡ true) × ((answer b p).parts ≡ p)
-granted_if true p e = (refl, refl)
-granted_if false p e = let z : ◌≡◌ {A = ℕ} 0 1 = cc in absurd (omega arith)
-
 pub granted_is_good : GrantedIsGood
 unfolding read_of
-granted_is_good s e = granted_if (good_of s) (parts_of s) e
+granted_is_good s p e = go (good_of s) e
+  where
+    go : (b : Bool) → ◌≡◌ {A = Result Parts Refusal} (cond b (Ok (parts_of s)) (Err BadLayout)) (Ok p) → (b ≡ true) × (p ≡ parts_of s)
+    go true h = (refl, cc)
+    go false h = let z : ◌≡◌ {A = ℕ} 0 1 = cc in absurd (omega arith)
 
 pub parts_inside : PartsInside
 unfolding parts_of
@@ -70,7 +71,7 @@ pub map_as_given : MapAsGiven
 unfolding parts_of
 map_as_given s m bytes e is = go (eqb (map_len s) 0) refl is
   where
-    go : (b : Bool) → eqb (map_len s) 0 ≡ b → cond b None (Map (body_at s 72)) ≡ Map m → map_numbers m ≡ given_map s
+    go : (b : Bool) → eqb (map_len s) 0 ≡ b → cond b None (Some (body_at s 72)) ≡ Some m → map_numbers m ≡ given_map s
     go true z is = let y : ◌≡◌ {A = ℕ} 0 1 = cc in absurd (omega arith)
     go false z is =
         let same : body_at s 72 ≡ m = cc in

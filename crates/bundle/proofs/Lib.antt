@@ -1,3 +1,2 @@
-pub mod Signed
 pub mod Numbers
 pub mod Claims

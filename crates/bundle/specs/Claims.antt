@@ -1,23 +1,21 @@
 -- What holds of every file that is granted, and so good: its parts lie inside it, and the numbers of what is read are the file's own bytes.
 -- proofs/Claims.antt has a proof of each.
-use Rattle.std.specs.Prelude.{ℕ, ◌+◌, ◌*◌, ◌≤◌, ◌<◌, ◌≡◌, true, List, [], ◌∷◌, length, get_or}
+use Rattle.std.specs.Prelude.{ℕ, ◌+◌, ◌*◌, ◌≤◌, ◌<◌, ◌≡◌, true, List, [], ◌∷◌, length, get_or, Ok, Some}
 use Rattle.memory.specs.Word.{le_at}
-use Rattle.scheme.specs.declared.refusal.Said.TheVariants.{Granted}
 use Rattle.entry.specs.Entry.{policy_number}
 use Rattle.plan.specs.Map.{flag, flags_of}
 use Rattle.layout.specs.Layout.{byte_at, good_of}
 use Rattle.session.specs.declared.Settings.{Settings}
 use Rattle.bundle.specs.declared.MapBody.{MapBody}
-use Rattle.bundle.specs.declared.MapPart.TheVariants.{Map}
 use Rattle.bundle.specs.declared.Parts.{Parts}
 use Rattle.session.specs.declared.Event.{Event}
 use Rattle.session.specs.declared.Event.TheVariants.{Translate, Flush, FlushAt}
 use Rattle.bundle.specs.Codes.{access_number, mode_number, rule_number, kind_number, mib_number}
 use Rattle.bundle.specs.Parts.{event_at, parts_of, read_of}
 
--- a reading that is granted is that of a good file, and has its parts
+-- the parts that are read are those of a good file
 abbrev pub GrantedIsGood : Type 0
-GrantedIsGood = (s : List ℕ) → (read_of s).said ≡ Granted → (good_of s ≡ true) × ((read_of s).parts ≡ parts_of s)
+GrantedIsGood = (s : List ℕ) (p : Parts) → read_of s ≡ Ok p → (good_of s ≡ true) × (p ≡ parts_of s)
 
 -- "RAM, at most 32,768 bytes. Accesses, 8 bytes each, at most 3,000", and "the file ends with the last"
 pub record Inside (s : List ℕ) (p : Parts) : Type 0 where
@@ -54,7 +52,7 @@ given_map s = byte_at s 72 ∷ byte_at s 73 ∷ (1 + byte_at s 74) ∷ le_at 4 s
 
 abbrev pub MapAsGiven : Type 0
 MapAsGiven =
-    (s : List ℕ) (m : MapBody) → ((k : ℕ) → get_or s k 0 < 256) → good_of s ≡ true → (parts_of s).map ≡ Map m
+    (s : List ℕ) (m : MapBody) → ((k : ℕ) → get_or s k 0 < 256) → good_of s ≡ true → (parts_of s).map ≡ Some m
     → map_numbers m ≡ given_map s
 
 -- "operation (0 translate, 1 flush, 2 flush address)"

@@ -1,21 +1,16 @@
 -- What is read from a trace bundle.
-use Rattle.std.specs.Prelude.{ℕ, ◌+◌, ◌/◌, Bool, true, false, cond, List, [], ◌∷◌, eqb}
+use Rattle.std.specs.Prelude.{ℕ, ◌+◌, ◌/◌, cond, List, [], ◌∷◌, eqb, Err, None, Ok, Option, Result, Some}
 use Rattle.bits.specs.Bits.{bit}
 use Rattle.memory.specs.Word.{le_at}
 use Rattle.pte.specs.Entry.{perms_of, global_bit}
-use Rattle.scheme.specs.Scheme.{sv32_scheme}
 use Rattle.scheme.specs.declared.PagingScheme.{PagingScheme}
+use Rattle.scheme.specs.declared.refusal.Refusal.{Refusal}
 use Rattle.scheme.specs.declared.refusal.Refusal.TheVariants.{BadLayout}
-use Rattle.scheme.specs.declared.refusal.Said.TheVariants.{Granted, Refused}
-use Rattle.entry.specs.Geometry.{default_config}
 use Rattle.entry.specs.declared.TlbConfig.{TlbConfig}
 use Rattle.layout.specs.Layout.{byte_at, map_len, ram_len, access_len, bodies_at, map_at, ram_at, first_at, good_of}
 use Rattle.session.specs.declared.Settings.{Settings}
 use Rattle.bundle.specs.declared.MapBody.{MapBody}
-use Rattle.bundle.specs.declared.MapPart.{MapPart}
-use Rattle.bundle.specs.declared.MapPart.TheVariants.{None, Map}
 use Rattle.bundle.specs.declared.Parts.{Parts}
-use Rattle.bundle.specs.declared.Reading.{Reading}
 use Rattle.session.specs.declared.Event.{Event}
 use Rattle.session.specs.declared.Event.TheVariants.{Translate, Flush, FlushAt}
 use Rattle.bundle.specs.Codes.{policy_of, access_of, mode_of, rule_of, kind_of}
@@ -71,8 +66,8 @@ body_at s p =
     }
 
 -- "0 bytes (none) or 20"
-abbrev pub map_part_at : List ℕ → ℕ → ℕ → MapPart
-map_part_at s p len = cond (eqb len 0) None (Map (body_at s p))
+abbrev pub map_part_at : List ℕ → ℕ → ℕ → Option MapBody
+map_part_at s p len = cond (eqb len 0) None (Some (body_at s p))
 
 -- ---- the accesses
 
@@ -102,30 +97,6 @@ parts_of s =
       count = access_len s / 8;
     }
 
--- the parts beside a refusal: the default settings, no map, no RAM, no accesses
-abbrev pub no_parts : Parts
-no_parts =
-    record {
-      config = default_config;
-      settings =
-          record {
-            scheme = sv32_scheme;
-            enabled = false;
-            force = false;
-            tlb_on = true;
-            satp = 0;
-          };
-      map = None;
-      ram_start = 0;
-      ram_len = 0;
-      first = 0;
-      count = 0;
-    }
-
-abbrev pub answer : Bool → Parts → Reading
-answer good p =
-    cond good (record { said = Granted; parts = p }) (record { said = Refused BadLayout; parts = no_parts })
-
 -- 8, "given exactly when": "the bundle breaks its layout"
-unfoldable pub read_of : List ℕ → Reading
-read_of s = answer (good_of s) (parts_of s)
+unfoldable pub read_of : List ℕ → Result Parts Refusal
+read_of s = cond (good_of s) (Ok (parts_of s)) (Err BadLayout)

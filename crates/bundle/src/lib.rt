@@ -3,19 +3,19 @@
 
 ghost use Rattle.std.specs.Prelude.{◌≡◌, true, ◌+◌, ◌≤◌, length};
 ghost use Rattle.layout.specs.Layout.{good_of};
-ghost use Rattle.bundle.specs.Parts.{scheme_at, config_at, settings_at, body_at, map_part_at, event_at, parts_of, no_parts, read_of};
+ghost use Rattle.bundle.specs.Parts.{scheme_at, config_at, settings_at, body_at, map_part_at, event_at, parts_of, read_of};
 
-use entry::TlbConfig;
+use entry::{ReplacementPolicy, TlbConfig};
 use layout::{is_good, len_at, u16_at, u32_at};
-use plan::{PageMapSpec, Window};
+use plan::{MapRule, PageMapSpec, Window};
 use pte::Pte;
-use scheme::{PagingScheme, Refusal, Said};
+use scheme::{AccessType, PagingScheme, PrivMode, Refusal};
 use session::{Event, Settings};
 use walk::Access;
 
 mod codes;
 
-pub use codes::{access_from, mode_from};
+pub use codes::Code;
 
 #[derive(Clone, Copy)]
 pub struct MapBody {
@@ -24,29 +24,17 @@ pub struct MapBody {
     pub window: Window,
 }
 
-#[derive(Clone, Copy)]
-pub enum MapPart {
-    None,
-    Map(MapBody),
-}
-
-// RAM is the `ram_len` bytes from `ram_start`, and the accesses are `count` records of 8 bytes from `first`.
+// RAM is the `ram_len` bytes from `ram_start`, and the accesses are `count` records of 8 bytes from `first`. Places and not slices: the theorems
+// of `bundle` say where in the file the parts lie.
 #[derive(Clone, Copy)]
 pub struct Parts {
     pub config: TlbConfig,
     pub settings: Settings,
-    pub map: MapPart,
+    pub map: Option<MapBody>,
     pub ram_start: usize,
     pub ram_len: usize,
     pub first: usize,
     pub count: usize,
-}
-
-// The parts stand beside the answer, since no enum holds an array; those of a refused file are the default ones.
-#[derive(Clone, Copy)]
-pub struct Reading {
-    pub said: Said,
-    pub parts: Parts,
 }
 
 pub fn scheme_at(file: &[u8], at: usize) -> PagingScheme
@@ -67,12 +55,11 @@ pub fn config_at(file: &[u8], at: usize) -> TlbConfig
     requires { at + 6 ≤ length file.now }
     ensures { result ≡ config_at file.now at }
 {
-    let entry_count = u16_at(file, at) as u16;
-    let replacement = codes::policy_from(file[at + 3]);
+    let entry_count = u16_at(file, at);
     TlbConfig {
         entry_count,
         associativity: file[at + 2],
-        replacement,
+        replacement: ReplacementPolicy::from(Code(file[at + 3])),
         hit_latency: file[at + 4],
         miss_penalty: file[at + 5],
     }
@@ -98,7 +85,7 @@ fn spec_at(file: &[u8], at: usize) -> PageMapSpec
     requires { at + 8 ≤ length file.now }
     ensures { result ≡ (body_at file.now at).spec }
 {
-    let rule = codes::rule_from(file[at]);
+    let rule = MapRule::from(Code(file[at]));
     let kind = codes::kind_from(file[at + 1], u32_at(file, at + 4));
     let flags = Pte::new(file[at + 2] as u64);
     let perms = flags.perms();
@@ -131,15 +118,15 @@ pub fn body_at(file: &[u8], at: usize) -> MapBody
 }
 
 // No map, or the one at a place.
-fn map_at(file: &[u8], at: usize, len: usize) -> MapPart
+fn map_at(file: &[u8], at: usize, len: usize) -> Option<MapBody>
     requires { (len ≡ 0 → ⊥) → at + 20 ≤ length file.now }
     ensures { result ≡ map_part_at file.now at len }
 {
     if len == 0 {
-        return MapPart::None;
+        None
+    } else {
+        Some(body_at(file, at))
     }
-    let body = body_at(file, at);
-    MapPart::Map(body)
 }
 
 fn parts_of(file: &[u8]) -> Parts
@@ -165,42 +152,15 @@ fn parts_of(file: &[u8]) -> Parts
     }
 }
 
-fn no_parts() -> Parts
-    ensures { result ≡ no_parts }
-{
-    let scheme = PagingScheme::sv32();
-    let config = entry::default_config();
-    let settings = Settings {
-        scheme,
-        enabled: false,
-        force: false,
-        tlb_on: true,
-        satp: 0,
-    };
-    let map = MapPart::None;
-    Parts {
-        config,
-        settings,
-        map,
-        ram_start: 0,
-        ram_len: 0,
-        first: 0,
-        count: 0,
-    }
-}
-
 // The parts of a good file, or refusal 8.
-pub fn read(file: &[u8]) -> Reading
+#[tactic(auto, unfolding(crate::specs::Parts::read_of))]
+pub fn read(file: &[u8]) -> Result<Parts, Refusal>
     ensures { result ≡ read_of file.now }
 {
     if is_good(file) {
-        let parts = parts_of(file);
-        let said = Said::Granted;
-        Reading { said, parts }
+        Ok(parts_of(file))
     } else {
-        let parts = no_parts();
-        let said = Said::Refused(Refusal::BadLayout);
-        Reading { said, parts }
+        Err(Refusal::BadLayout)
     }
 }
 
@@ -210,15 +170,11 @@ pub fn event_at(file: &[u8], at: usize) -> Event
     ensures { result ≡ event_at file.now at }
 {
     let vaddr = u32_at(file, at) as u64;
-    let kind = codes::access_from(file[at + 4]);
-    let mode = codes::mode_from(file[at + 5]);
-    let operation = file[at + 6];
-    if operation == 0 {
-        let access = Access { vaddr, kind, mode };
-        return Event::Translate(access);
+    let kind = AccessType::from(Code(file[at + 4]));
+    let mode = PrivMode::from(Code(file[at + 5]));
+    match file[at + 6] {
+        0 => Event::Translate(Access { vaddr, kind, mode }),
+        1 => Event::Flush,
+        _ => Event::FlushAt(vaddr),
     }
-    if operation == 1 {
-        return Event::Flush;
-    }
-    Event::FlushAt(vaddr)
 }

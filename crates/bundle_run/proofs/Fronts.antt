@@ -1,27 +1,18 @@
 -- The start of a buffer, and the bytes of the file that go there.
-use mathlib.Core.Path.{◌≡◌, ap, ◌∙◌}
+use mathlib.Core.Path.{◌≡◌}
 use mathlib.Core.List.{List, ◌++◌}
 use Prim.Native.Nat.{ℕ, ◌+◌, ◌-◌, ◌≤◌}
 use native.Mathlib.Omega.{arith}
 use lib.ListN.{length, take, drop, length-drop}
-use lib.Seq.{sets, sets-eq, take_at, drop_at, length-take-le}
+use lib.Seq.{sets, sets-eq, length-take-le}
 use Rattle.bundle.specs.declared.Parts.{Parts}
 use Rattle.bundle_run.specs.Parts.{given_ram, Within}
 
-module _ (xs : List ℕ) where
-  front : (ys : List ℕ) → length ys ≤ length xs → sets xs 0 ys ≡ ys ++ drop (length ys) xs
-  front ys h =
-      let z : 0 + length ys ≡ length ys = omega arith in
-      sets-eq ys xs 0 (omega arith) ∙ ap (λ (n : ℕ). ys ++ drop n xs) z
-
-  -- what is at the start of it
-  pub front_part : (ys : List ℕ) (n : ℕ) → length ys ≡ n → n ≤ length xs → take n (sets xs 0 ys) ≡ ys
-  front_part ys n e h = rw (front ys (omega arith)) (take_at ys _ n e)
-
-  -- other bytes in its place
-  pub front_other : (ys zs : List ℕ) (n : ℕ) → length ys ≡ n → length zs ≡ n → n ≤ length xs → zs ++ drop n (sets xs 0 ys) ≡ sets xs 0 zs
-  front_other ys zs n e f h =
-      rw (front ys (omega arith), drop_at ys (drop (length ys) xs) n e, front zs (omega arith), e, f)
+-- a buffer whose first n bytes are ys
+pub front : (xs ys : List ℕ) (n : ℕ) → length ys ≡ n → n ≤ length xs → ys ++ drop n xs ≡ sets xs 0 ys
+front xs ys n e h =
+    let z : 0 + length ys ≡ n = omega arith in
+    rw (sets-eq ys xs 0 (omega arith), z)
 
 -- the bytes from a place on, by the place after them
 pub between : (s : List ℕ) (start len : ℕ) → take (start + len - start) (drop start s) ≡ take len (drop start s)

@@ -3,7 +3,6 @@ use Prim.Native.Nat.{ℕ, zero, suc, ◌%◌, ◌≤◌}
 use mathlib.Core.Path.{◌≡◌, refl}
 use mathlib.Core.Bool.{true}
 use native.Mathlib.Nat.{mod-lt}
-use native.Mathlib.Omega.{arith}
 use lib.Dec.{lit≤}
 use lib.ListN.{get_or, replicate}
 use Rattle.entry.specs.Entry.{blank}
@@ -158,10 +157,10 @@ module _ (P : Said → Type 0) where
   Says e = e.valid ≡ true → P (said_by e)
 
   says : Stable Says
-  says = record { mark = λ e n b h. h; drop = λ e h v. let z : ◌≡◌ {A = ℕ} 0 1 = cc in absurd (omega arith) }
+  says = record { mark = λ e n b h. h; drop = λ e h v. absurd cc }
 
   holds_new : (i : ℕ) → Says (entry_at (replicate 128 blank) i)
-  holds_new i = rw (blank_at 128 i) (λ v. let z : ◌≡◌ {A = ℕ} 0 1 = cc in absurd (omega arith))
+  holds_new i = rw (blank_at 128 i) (λ v. absurd cc)
 
 pub new_holds : claim.NewHolds
 unfolding tlb_new

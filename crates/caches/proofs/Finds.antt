@@ -1,4 +1,5 @@
 -- What a search answers stands in the slots it looked at and passes its test; so what a probe finds is an entry of the cache.
+use Rattle.std.specs.Prelude.{None, Some, Option}
 use Prim.Native.Nat.{ℕ, suc, ◌+◌, ◌-◌, ◌*◌, ◌≤◌, ◌<◌, min}
 use mathlib.Core.Path.{◌≡◌, refl, ap, ◌∙◌}
 use mathlib.Core.Bool.{Bool, true, false, cond, ◌&&◌}
@@ -12,12 +13,9 @@ use Rattle.entry.specs.declared.TlbEntry.{TlbEntry}
 use Rattle.entry.specs.declared.ReplacementPolicy.{ReplacementPolicy}
 use Rattle.entry.specs.declared.ReplacementPolicy.TheVariants.{Lru, Mru, Fifo, Lfu, Clock, Random}
 use Rattle.slots.specs.Slots.{entry_at, scan, first_in}
-use Rattle.slots.specs.declared.Slot.{Slot}
-use Rattle.slots.specs.declared.Slot.TheVariants.{At, Nothing}
 use Rattle.tlb.specs.Cache.{Shape, next_age, set_of, start_of, slot_of, on_slot, or_slot, touch_at, find_from, probe_in}
 use Rattle.tlb.specs.State.{Geo, ways_of, shape_of, cache_of, tlb_probe}
 use Rattle.tlb.specs.declared.Tlb.{Tlb}
-use Rattle.tlb.specs.declared.Lookup.TheVariants.{Found, Absent}
 use Rattle.caches.specs.Terms.{said_by, EntryOf}
 
 -- slot i is one of those from a up to b, and passes
@@ -27,12 +25,12 @@ pub record Passes (p : TlbEntry → Bool) (es : List TlbEntry) (a b i : ℕ) : T
   pub test : p (entry_at es i) ≡ true
 
 module _ (p : TlbEntry → Bool) where
-  scan_found : (xs : List TlbEntry) (n i : ℕ) → scan p xs n ≡ At i → (n ≤ i) × (i < n + length xs) × (p (entry_at xs (i - n)) ≡ true)
-  scan_found [] n i e = let z : ◌≡◌ {A = ℕ} 0 1 = cc in absurd (omega arith)
+  scan_found : (xs : List TlbEntry) (n i : ℕ) → scan p xs n ≡ Some i → (n ≤ i) × (i < n + length xs) × (p (entry_at xs (i - n)) ≡ true)
+  scan_found [] n i e = absurd cc
   scan_found (x ∷ xs) n i e = go (p x) refl e (scan_found xs (suc n) i)
     where
-      go : (b : Bool) → p x ≡ b → cond b (At n) (scan p xs (suc n)) ≡ At i →
-          (scan p xs (suc n) ≡ At i → (suc n ≤ i) × (i < suc n + length xs) × (p (entry_at xs (i - suc n)) ≡ true)) →
+      go : (b : Bool) → p x ≡ b → cond b (Some n) (scan p xs (suc n)) ≡ Some i →
+          (scan p xs (suc n) ≡ Some i → (suc n ≤ i) × (i < suc n + length xs) × (p (entry_at xs (i - suc n)) ≡ true)) →
           (n ≤ i) × (i < n + length (x ∷ xs)) × (p (entry_at (x ∷ xs) (i - n)) ≡ true)
       go true q r f =
           let z : n ≡ i = cc in
@@ -43,7 +41,7 @@ module _ (p : TlbEntry → Bool) where
           let d : i - n ≡ suc (i - suc n) = omega (arith, h.0) in
           (omega (arith, h.0), omega (arith, h.1), rw d h.2)
 
-  pub first_found : (es : List TlbEntry) (a b i : ℕ) → first_in p es a b ≡ At i → Passes p es a b i
+  pub first_found : (es : List TlbEntry) (a b i : ℕ) → first_in p es a b ≡ Some i → Passes p es a b i
   unfolding first_in
   first_found es a b i e =
       let h = scan_found (slice a b es) a i e in
@@ -57,17 +55,17 @@ module _ (p : TlbEntry → Bool) where
 -- a class in whose set it was found
 pub record InClass (s : Shape) (vpn asid : ℕ) (es : List TlbEntry) (i : ℕ) : Type 0 where
   pub class : ℕ
-  pub here : slot_of s vpn asid es class ≡ At i
+  pub here : slot_of s vpn asid es class ≡ Some i
 
-pub find_class : (s : Shape) (ms : List ℕ) (vpn asid : ℕ) (es : List TlbEntry) (i : ℕ) → find_from s ms vpn asid es ≡ At i → InClass s vpn asid es i
+pub find_class : (s : Shape) (ms : List ℕ) (vpn asid : ℕ) (es : List TlbEntry) (i : ℕ) → find_from s ms vpn asid es ≡ Some i → InClass s vpn asid es i
 unfolding find_from
-find_class s [] vpn asid es i e = let z : ◌≡◌ {A = ℕ} 0 1 = cc in absurd (omega arith)
+find_class s [] vpn asid es i e = absurd cc
 find_class s (m ∷ ms) vpn asid es i e = go (slot_of s vpn asid es m) refl e (find_class s ms vpn asid es i)
   where
-    go : (k : Slot) → slot_of s vpn asid es m ≡ k → or_slot k (find_from s ms vpn asid es) ≡ At i →
-        (find_from s ms vpn asid es ≡ At i → InClass s vpn asid es i) → InClass s vpn asid es i
-    go (At j) q r f = record { class = m; here = q ∙ r }
-    go Nothing q r f = f r
+    go : (k : Option ℕ) → slot_of s vpn asid es m ≡ k → or_slot k (find_from s ms vpn asid es) ≡ Some i →
+        (find_from s ms vpn asid es ≡ Some i → InClass s vpn asid es i) → InClass s vpn asid es i
+    go (Some j) q r f = record { class = m; here = q ∙ r }
+    go None q r f = f r
 
 -- a touch changes nothing of what an entry says, and nothing of whether it answers
 module _ (a : ℕ) (e : TlbEntry) where
@@ -118,7 +116,7 @@ found_count t g vpn asid i c =
     record { low = p.low; high = omega (arith, p.high, set_count t g (set_of (shape_of t) vpn m) (mod-lt _ g.some)); test = p.test }
 
 module _ (t : Tlb) (vpn asid : ℕ) (g : Geo t) where
-  entry_at_lem : (e : TlbEntry) (i : ℕ) → find_from (shape_of t) (shape_of t).classes vpn asid t.entries ≡ At i →
+  entry_at_lem : (e : TlbEntry) (i : ℕ) → find_from (shape_of t) (shape_of t).classes vpn asid t.entries ≡ Some i →
       touched_of t.config.replacement (next_age (cache_of t)) (entry_at t.entries i) ≡ e → EntryOf t vpn asid e
   entry_at_lem e i f q =
       let p = found_count t g vpn asid i (find_class (shape_of t) (shape_of t).classes vpn asid t.entries i f) in
@@ -134,12 +132,12 @@ module _ (t : Tlb) (vpn asid : ℕ) (g : Geo t) where
         same = rw (← q) (touch_matches _ (entry_at t.entries i) t.config.replacement vpn asid ∙ y);
       }
 
-  pub probe_entry : (e : TlbEntry) → (tlb_probe t vpn asid).lookup ≡ Found e → EntryOf t vpn asid e
+  pub probe_entry : (e : TlbEntry) → (tlb_probe t vpn asid).lookup ≡ Some e → EntryOf t vpn asid e
   unfolding tlb_probe probe_in touch_at
   probe_entry e h = go (find_from (shape_of t) (shape_of t).classes vpn asid t.entries) refl h
     where
-      go : (k : Slot) → find_from (shape_of t) (shape_of t).classes vpn asid t.entries ≡ k →
-          (on_slot k (λ i. touch_at t.config.replacement i (cache_of t)) (record { lookup = Absent; cache = cache_of t })).lookup ≡ Found e →
+      go : (k : Option ℕ) → find_from (shape_of t) (shape_of t).classes vpn asid t.entries ≡ k →
+          (on_slot k (λ i. touch_at t.config.replacement i (cache_of t)) (record { lookup = None; cache = cache_of t })).lookup ≡ Some e →
           EntryOf t vpn asid e
-      go (At i) q r = entry_at_lem e i q (cc)
-      go Nothing q r = let z : ◌≡◌ {A = ℕ} 0 1 = cc in absurd (omega arith)
+      go (Some i) q r = entry_at_lem e i q (cc)
+      go None q r = absurd cc

@@ -1,4 +1,5 @@
 -- A fact of entries that survives new marks and dropping survives every operation, at every slot below n.
+use Rattle.std.specs.Prelude.{None, Option, Some}
 use Prim.Native.Nat.{ℕ, zero, suc, ◌+◌, ◌%◌, ◌<◌}
 use mathlib.Core.Path.{◌≡◌, refl, sym, subst}
 use mathlib.Core.Bool.{Bool, true, false, cond, ◌||◌}
@@ -10,11 +11,8 @@ use Rattle.entry.specs.declared.TlbEntry.{TlbEntry}
 use Rattle.entry.specs.declared.ReplacementPolicy.{ReplacementPolicy}
 use Rattle.entry.specs.declared.ReplacementPolicy.TheVariants.{Lru, Mru, Fifo, Lfu, Clock, Random}
 use Rattle.slots.specs.Slots.{entry_at, wanted_of, first_in, quiet_in, clock_from, map_in}
-use Rattle.slots.specs.declared.Slot.{Slot}
-use Rattle.slots.specs.declared.Slot.TheVariants.{At, Nothing}
 use Rattle.slots.specs.declared.Swept.{Swept}
 use Rattle.tlb.specs.Cache.{Cache, Shape, Chosen, Seen, store_at, evicted, clock_in, victim_in, on_slot, replace_in, install_new, set_of, start_of, slot_of, install_in, touch_at, find_from, probe_in, flush_in, clear_sets, flush_page_in}
-use Rattle.tlb.specs.declared.Lookup.TheVariants.{Absent}
 
 -- a store changes one slot at most
 pub at_set : (es : List TlbEntry) (i : ℕ) (x : TlbEntry) (j : ℕ) →
@@ -49,9 +47,9 @@ pub by_cond : {A : Type 0} (K : A → Type 0) (b : Bool) (x y : A) → K x → K
 by_cond K true x y h k = h
 by_cond K false x y h k = k
 
-pub by_slot : {A : Type 0} (K : A → Type 0) (s : Slot) (f : ℕ → A) (z : A) → ((i : ℕ) → K (f i)) → K z → K (on_slot s f z)
-by_slot K (At i) f z g k = g i
-by_slot K Nothing f z g k = k
+pub by_slot : {A : Type 0} (K : A → Type 0) (s : Option ℕ) (f : ℕ → A) (z : A) → ((i : ℕ) → K (f i)) → K z → K (on_slot s f z)
+by_slot K (Some i) f z g k = g i
+by_slot K None f z g k = k
 
 module _ (R : TlbEntry → Type 0) (st : Stable R) where
   touch_one : (p : ReplacementPolicy) (a : ℕ) (e : TlbEntry) → R e → R (touched_of p a e)
@@ -129,7 +127,7 @@ module _ (R : TlbEntry → Type 0) (st : Stable R) where
     pub keep_probe : (s : Shape) (vpn asid : ℕ) (c : Cache) → Fine c → FineSeen (probe_in s vpn asid c)
     unfolding probe_in
     keep_probe s vpn asid c h =
-        by_slot FineSeen (find_from s s.classes vpn asid c.slots) (λ i. touch_at s.policy i c) (record { lookup = Absent; cache = c })
+        by_slot FineSeen (find_from s s.classes vpn asid c.slots) (λ i. touch_at s.policy i c) (record { lookup = None; cache = c })
         (λ i. keep_touch s.policy i c h) h
 
     pub keep_flush : (s : Shape) (c : Cache) → Fine c → Fine (flush_in s c)

@@ -1,4 +1,5 @@
 -- No operation changes a slot from the count on: each slot that it writes is one of a set's.
+use Rattle.std.specs.Prelude.{None, Option, Some}
 use Prim.Native.Nat.{ℕ, zero, suc, ◌+◌, ◌%◌, ◌≤◌, ◌<◌}
 use mathlib.Core.Path.{◌≡◌, refl, ◌∙◌}
 use mathlib.Core.Bool.{true, false}
@@ -11,15 +12,11 @@ use Rattle.entry.specs.Entry.{unreferenced_of, is_clock, cleared_of}
 use Rattle.entry.specs.declared.TlbEntry.{TlbEntry}
 use Rattle.entry.specs.declared.ReplacementPolicy.{ReplacementPolicy}
 use Rattle.slots.specs.Slots.{entry_at, wanted_of, first_in, quiet_in, clock_from, map_in}
-use Rattle.slots.specs.declared.Slot.{Slot}
-use Rattle.slots.specs.declared.Slot.TheVariants.{At, Nothing}
 use Rattle.slots.specs.declared.Swept.{Swept}
 use Rattle.slots.proofs.SlotLaws.{quiet_below, clock_below}
 use Rattle.tlb.specs.Cache.{Cache, Chosen, store_at, evicted, clock_in, victim_in, on_slot, replace_in, install_new, set_of, start_of, slot_of, install_in, touch_at, find_from, probe_in, flush_in, clear_sets, flush_page_in}
 use Rattle.tlb.specs.State.{Geo, ways_of, shape_of, cache_of, tlb_probe, tlb_install, tlb_flush, tlb_flush_page}
 use Rattle.tlb.specs.declared.Tlb.{Tlb}
-use Rattle.tlb.specs.declared.Lookup.TheVariants.{Absent}
-use Rattle.tlb.proofs.CacheLaws.{ways_some}
 use Rattle.caches.specs.Terms.{SamePast}
 use Rattle.caches.proofs.Kept.{at_set, by_cond}
 use Rattle.caches.proofs.Finds.{first_found, find_class, set_count, found_count}
@@ -74,32 +71,32 @@ module _ (n : ℕ) where
       unfolding install_new replace_in store_at evicted
       past_new p e long = go (first_in (wanted_of true 0 0) c.slots start (start + ways)) refl
         where
-          go : (s : Slot) → first_in (wanted_of true 0 0) c.slots start (start + ways) ≡ s →
+          go : (s : Option ℕ) → first_in (wanted_of true 0 0) c.slots start (start + ways) ≡ s →
               Past n c.slots (on_slot s (λ i. store_at p i e c) (replace_in p group start ways e c)).slots
-          go (At i) q = past_set c.slots i _ (omega (arith, (first_found _ c.slots start (start + ways) i q).high))
-          go Nothing q = λ j l. past_set (victim_in p group start ways c).cache.slots _ _ (victim_below p long) j l ∙ past_victim p j l
+          go (Some i) q = past_set c.slots i _ (omega (arith, (first_found _ c.slots start (start + ways) i q).high))
+          go None q = λ j l. past_set (victim_in p group start ways c).cache.slots _ _ (victim_below p long) j l ∙ past_victim p j l
 
 module _ (t : Tlb) (g : Geo t) where
   pub probe_past : (vpn asid : ℕ) → SamePast t (tlb_probe t vpn asid).tlb
   unfolding tlb_probe probe_in touch_at
   probe_past vpn asid = go (find_from (shape_of t) (shape_of t).classes vpn asid t.entries) refl
     where
-      go : (k : Slot) → find_from (shape_of t) (shape_of t).classes vpn asid t.entries ≡ k →
-          Past t.count t.entries (on_slot k (λ i. touch_at t.config.replacement i (cache_of t)) (record { lookup = Absent; cache = cache_of t })).cache.slots
-      go (At i) q = past_set t.count t.entries i _ (found_count t g vpn asid i (find_class (shape_of t) (shape_of t).classes vpn asid t.entries i q)).high
-      go Nothing q = λ j l. refl
+      go : (k : Option ℕ) → find_from (shape_of t) (shape_of t).classes vpn asid t.entries ≡ k →
+          Past t.count t.entries (on_slot k (λ i. touch_at t.config.replacement i (cache_of t)) (record { lookup = None; cache = cache_of t })).cache.slots
+      go (Some i) q = past_set t.count t.entries i _ (found_count t g vpn asid i (find_class (shape_of t) (shape_of t).classes vpn asid t.entries i q)).high
+      go None q = λ j l. refl
 
   pub install_past : (e : TlbEntry) → length t.entries ≡ 128 → SamePast t (tlb_install t e)
   unfolding tlb_install install_in store_at
   install_past e long = go (slot_of (shape_of t) e.vpn e.asid t.entries e.mask_bits) refl
     where
-      go : (k : Slot) → slot_of (shape_of t) e.vpn e.asid t.entries e.mask_bits ≡ k →
+      go : (k : Option ℕ) → slot_of (shape_of t) e.vpn e.asid t.entries e.mask_bits ≡ k →
           Past t.count t.entries (on_slot k (λ i. store_at t.config.replacement i e (cache_of t))
           (install_new t.config.replacement (set_of (shape_of t) e.vpn e.mask_bits) (start_of (shape_of t) e.vpn e.mask_bits) (ways_of t) e (cache_of t))).slots
-      go (At i) q = past_set t.count t.entries i _ (found_count t g e.vpn e.asid i (record { class = e.mask_bits; here = q })).high
-      go Nothing q =
+      go (Some i) q = past_set t.count t.entries i _ (found_count t g e.vpn e.asid i (record { class = e.mask_bits; here = q })).high
+      go None q =
           let b : start_of (shape_of t) e.vpn e.mask_bits + ways_of t ≤ t.count = set_count t g _ (mod-lt _ g.some) in
-          past_new t.count (start_of (shape_of t) e.vpn e.mask_bits) (ways_of t) b (ways_some t g) _ (cache_of t) t.config.replacement e
+          past_new t.count (start_of (shape_of t) e.vpn e.mask_bits) (ways_of t) b (omega arith) _ (cache_of t) t.config.replacement e
           (omega (arith, g.room))
 
   pub flush_past : SamePast t (tlb_flush t)

@@ -1,4 +1,5 @@
 -- Every operation leaves as many slots and hands as there were.
+use Rattle.std.specs.Prelude.{None}
 use Prim.Native.Nat.{ℕ, zero, suc, ◌+◌, ◌%◌}
 use mathlib.Core.Path.{◌≡◌, refl, ap, ◌∙◌}
 use mathlib.Core.Bool.{true}
@@ -10,7 +11,6 @@ use Rattle.entry.specs.declared.ReplacementPolicy.{ReplacementPolicy}
 use Rattle.slots.specs.Slots.{entry_at, wanted_of, first_in, quiet_in, clock_from, map_in}
 use Rattle.slots.specs.declared.Swept.{Swept}
 use Rattle.tlb.specs.Cache.{Cache, Shape, Chosen, Seen, store_at, evicted, clock_in, victim_in, replace_in, install_new, set_of, start_of, slot_of, install_in, touch_at, find_from, probe_in, flush_in, clear_sets, flush_page_in}
-use Rattle.tlb.specs.declared.Lookup.TheVariants.{Absent}
 use Rattle.caches.proofs.Kept.{by_cond, by_slot}
 
 pub record SameRoom (c d : Cache) : Type 0 where
@@ -79,7 +79,7 @@ module _ (c : Cache) where
   unfolding probe_in
   probe_room s vpn asid =
       by_slot (λ (v : Seen). SameRoom c v.cache) (find_from s s.classes vpn asid c.slots) (λ i. touch_at s.policy i c)
-      (record { lookup = Absent; cache = c })
+      (record { lookup = None; cache = c })
       (λ i. touch_room s.policy i) (record { slots = refl; hands = refl })
 
   pub flush_room : (s : Shape) → SameRoom c (flush_in s c)

@@ -1,16 +1,14 @@
 -- A second look into a set that missed finds nothing, and a second flush of a set changes nothing.
+use Rattle.std.specs.Prelude.{Option, Some, None}
 use Prim.Native.Nat.{ℕ, zero, suc, ◌+◌, ◌*◌}
 use mathlib.Core.Path.{◌≡◌, refl, sym, ap, ◌∙◌}
 use mathlib.Core.Bool.{Bool, true, false, cond, ◌||◌}
 use mathlib.Core.List.{List, [], ◌∷◌}
-use native.Mathlib.Omega.{arith}
 use lib.Dec.{eqb}
 use borrow.Author.Tests.{eqb-true}
 use Rattle.entry.specs.Entry.{matches_of, invalid_of, cleared_of}
 use Rattle.entry.specs.declared.TlbEntry.{TlbEntry}
 use Rattle.slots.specs.Slots.{wanted_of, first_in, map_in}
-use Rattle.slots.specs.declared.Slot.{Slot}
-use Rattle.slots.specs.declared.Slot.TheVariants.{At, Nothing}
 use Rattle.slots.proofs.SlotLaws.{map_none}
 use Rattle.tlb.specs.Cache.{Shape, set_of, slot_of, or_slot, find_from, clear_sets}
 use Rattle.caches.specs.Terms.{among, find_once, clear_once}
@@ -26,12 +24,12 @@ more_seen K g seen k f h q = go (eqb h g) refl q
 
 none_seen : (K : ℕ → Type 0) (h : ℕ) → among h [] ≡ true → K h
 unfolding among
-none_seen K h q = let z : ◌≡◌ {A = ℕ} 0 1 = cc in absurd (omega arith)
+none_seen K h q = absurd cc
 
 module _ (s : Shape) (vpn asid : ℕ) (es : List TlbEntry) where
   -- a look into set g finds nothing
   abbrev Missed : ℕ → Type 0
-  Missed g = first_in (wanted_of false vpn asid) es (g * s.ways) (g * s.ways + s.ways) ≡ Nothing
+  Missed g = first_in (wanted_of false vpn asid) es (g * s.ways) (g * s.ways + s.ways) ≡ None
 
   once_from : (ms seen : List ℕ) → ((h : ℕ) → among h seen ≡ true → Missed h) → find_once s seen ms vpn asid es ≡ find_from s ms vpn asid es
   unfolding find_once find_from
@@ -40,14 +38,14 @@ module _ (s : Shape) (vpn asid : ℕ) (es : List TlbEntry) where
       go (among (set_of s vpn m) seen) refl (slot_of s vpn asid es m) refl (once_from ms seen f)
       (λ k. once_from ms (set_of s vpn m ∷ seen) (more_seen Missed (set_of s vpn m) seen k f))
     where
-      go : (b : Bool) → among (set_of s vpn m) seen ≡ b → (k : Slot) → slot_of s vpn asid es m ≡ k →
+      go : (b : Bool) → among (set_of s vpn m) seen ≡ b → (k : Option ℕ) → slot_of s vpn asid es m ≡ k →
           find_once s seen ms vpn asid es ≡ find_from s ms vpn asid es →
           (Missed (set_of s vpn m) → find_once s (set_of s vpn m ∷ seen) ms vpn asid es ≡ find_from s ms vpn asid es) →
           cond b (find_once s seen ms vpn asid es) (or_slot (slot_of s vpn asid es m) (find_once s (set_of s vpn m ∷ seen) ms vpn asid es)) ≡
           or_slot (slot_of s vpn asid es m) (find_from s ms vpn asid es)
       go true q k r old new = rw (f (set_of s vpn m) q) old
-      go false q (At i) r old new = rw r
-      go false q Nothing r old new = rw r (new r)
+      go false q (Some i) r old new = rw r
+      go false q None r old new = rw r (new r)
 
   pub find_once_lem : (ms : List ℕ) → find_once s [] ms vpn asid es ≡ find_from s ms vpn asid es
   find_once_lem ms = once_from ms [] (none_seen Missed)

@@ -1,5 +1,5 @@
 -- What holds of the TLB's operations, each with the sentence of document 01 that it stands for. The proofs are in proofs/Claims.antt.
-use Rattle.std.specs.Prelude.{ℕ, ◌+◌, ◌%◌, ◌≤◌, ◌<◌, ◌≡◌, true, false, List, [], length, get_or, set}
+use Rattle.std.specs.Prelude.{ℕ, ◌+◌, ◌%◌, ◌≤◌, ◌<◌, ◌≡◌, true, false, List, [], length, get_or, set, Some}
 use Rattle.entry.specs.Geometry.{entries_for}
 use Rattle.entry.specs.declared.TlbEntry.{TlbEntry}
 use Rattle.entry.specs.declared.TlbConfig.{TlbConfig}
@@ -8,7 +8,6 @@ use Rattle.slots.specs.Slots.{entry_at, clock_from}
 use Rattle.tlb.specs.Cache.{Cache, Shape, victim_in, find_from, clear_sets}
 use Rattle.tlb.specs.State.{Geo, tlb_fits, tlb_new, tlb_reconfigure, tlb_set_scheme, tlb_probe, tlb_install, tlb_flush, tlb_flush_page, tlb_flush_vaddr}
 use Rattle.tlb.specs.declared.Tlb.{Tlb}
-use Rattle.tlb.specs.declared.Lookup.TheVariants.{Found}
 use Rattle.caches.specs.Terms.{Said, said_by, Holds, SameFrame, SameScheme, SamePast, EntryOf, FirstSmallest, LastGreatest, FirstClear, find_once, clear_once}
 
 -- "A state is fit when .. its geometry is what its config gives, at most 128 entries, .. and no entry's class is above 19": calls keep it so
@@ -78,7 +77,7 @@ FlushVaddrPast = (t : Tlb) (vaddr : ℕ) → Geo t → SamePast t (tlb_flush_vad
 
 -- "the answer of a probe is either the entry found or nothing": what is found is an entry of the cache
 abbrev pub ProbeFinds : Type 0
-ProbeFinds = (t : Tlb) (vpn asid : ℕ) (e : TlbEntry) → Geo t → (tlb_probe t vpn asid).lookup ≡ Found e → EntryOf t vpn asid e
+ProbeFinds = (t : Tlb) (vpn asid : ℕ) (e : TlbEntry) → Geo t → (tlb_probe t vpn asid).lookup ≡ Some e → EntryOf t vpn asid e
 
 -- a step drops entries, touches ages and marks, or adds the one entry that is installed: what all entries say stays so
 abbrev pub NewHolds : Type 1
@@ -107,7 +106,7 @@ FlushVaddrHolds = (P : Said → Type 0) (t : Tlb) (vaddr : ℕ) → Holds P t �
 
 -- and so does what is found
 abbrev pub FoundHolds : Type 1
-FoundHolds = (P : Said → Type 0) (t : Tlb) (vpn asid : ℕ) (e : TlbEntry) → Geo t → Holds P t → (tlb_probe t vpn asid).lookup ≡ Found e → P (said_by e)
+FoundHolds = (P : Said → Type 0) (t : Tlb) (vpn asid : ℕ) (e : TlbEntry) → Geo t → Holds P t → (tlb_probe t vpn asid).lookup ≡ Some e → P (said_by e)
 
 -- "Victims: Lru, Fifo, Lfu the first smallest age; Mru the last greatest; Random the counter before its increment, mod ways"
 module _ (group start ways : ℕ) (c : Cache) where

@@ -1,11 +1,9 @@
 -- The words that the claims about the TLB use.
-use Rattle.std.specs.Prelude.{ℕ, ◌+◌, ◌%◌, ◌≤◌, ◌<◌, ◌≡◌, Bool, true, false, cond, ◌||◌, List, [], ◌∷◌, eqb, length}
+use Rattle.std.specs.Prelude.{ℕ, ◌+◌, ◌%◌, ◌≤◌, ◌<◌, ◌≡◌, Bool, true, false, cond, ◌||◌, List, [], ◌∷◌, eqb, length, Option, None}
 use Rattle.pte.specs.declared.PtePerms.{PtePerms}
 use Rattle.entry.specs.Entry.{matches_of, cleared_of}
 use Rattle.entry.specs.declared.TlbEntry.{TlbEntry}
 use Rattle.slots.specs.Slots.{entry_at, map_in}
-use Rattle.slots.specs.declared.Slot.{Slot}
-use Rattle.slots.specs.declared.Slot.TheVariants.{Nothing}
 use Rattle.tlb.specs.Cache.{Shape, set_of, start_of, slot_of, or_slot}
 use Rattle.tlb.specs.declared.Tlb.{Tlb}
 
@@ -97,8 +95,8 @@ among n [] = false
 among n (m ∷ ms) = eqb n m || among n ms
 
 -- a probe that keeps a list of the sets it has seen, and skips them
-unfoldable pub find_once : Shape → List ℕ → List ℕ → ℕ → ℕ → List TlbEntry → Slot
-find_once s seen [] vpn asid es = Nothing
+unfoldable pub find_once : Shape → List ℕ → List ℕ → ℕ → ℕ → List TlbEntry → Option ℕ
+find_once s seen [] vpn asid es = None
 find_once s seen (m ∷ ms) vpn asid es =
     cond (among (set_of s vpn m) seen) (find_once s seen ms vpn asid es)
     (or_slot (slot_of s vpn asid es m) (find_once s (set_of s vpn m ∷ seen) ms vpn asid es))

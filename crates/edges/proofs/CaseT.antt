@@ -1,4 +1,5 @@
 -- P10: the marks that case T's accesses earn, by "any order", on the two words that its map writes. RAM itself is never computed.
+use Rattle.std.specs.Prelude.{Ok}
 use Prim.Native.Nat.{ℕ, zero, suc, ◌+◌, ◌^◌, ◌≤◌, ◌<◌}
 use native.Mathlib.Omega.{arith}
 use mathlib.Core.Path.{◌≡◌, refl, sym, ap, ◌∙◌}
@@ -17,7 +18,6 @@ use Rattle.scheme.specs.Scheme.{total, ok_widths, valid_of, widths_of, sv32_sche
 use Rattle.scheme.specs.declared.access.AccessType.{AccessType}
 use Rattle.scheme.specs.declared.access.AccessType.TheVariants.{Fetch, Load, Store}
 use Rattle.scheme.specs.declared.access.PrivMode.TheVariants.{U, S}
-use Rattle.scheme.specs.declared.refusal.Said.TheVariants.{Granted}
 use Rattle.scheme.specs.Scheme.{sv32}
 use Rattle.walker.specs.Descent.{frame, place, entry_at, bad_if, leaf_is, entry_is, met_at, follow, seek, descent_of, top_ok, descent_in}
 use Rattle.walker.specs.declared.Met.TheVariants.{Leaf}
@@ -152,7 +152,7 @@ module _ (start : List ℕ) (bytes : Bytes start) (t : Two start 0x1F 0x0010_001
 
 -- ---- the installed words
 
-said_t : refusal_of sv32_scheme map_t window_t 4096 8192 ≡ Granted
+said_t : refusal_of sv32_scheme map_t window_t 4096 8192 ≡ Ok tt
 unfolding refusal_of refuse_if bought_of ok_widths total barred room_at room sum_from opens plan_of
 said_t = refl
 
@@ -167,7 +167,7 @@ module _ (ram : List ℕ) (holds : Holds ram (table_writes (plan_of sv32_scheme 
 
 any_ram : (ram : List ℕ) → length ram ≡ 8192 → Bytes ram → EndsAsT ram
 any_ram ram long bytes =
-    let said : install_said sv32_scheme map_t window_t 4096 ram ≡ Granted = ap (λ (n : ℕ). refusal_of sv32_scheme map_t window_t 4096 n) long ∙ said_t in
+    let said : install_said sv32_scheme map_t window_t 4096 ram ≡ Ok tt = ap (λ (n : ℕ). refusal_of sv32_scheme map_t window_t 4096 n) long ∙ said_t in
     let start = installed_t ram in
     let holds = holds_all sv32_scheme map_t window_t 4096 ram said in
     let one = word_first start holds in

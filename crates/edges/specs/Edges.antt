@@ -1,13 +1,11 @@
 -- Document 01, "Both sides of each edge": the numbers that are proved, from the definitions.
-use Rattle.std.specs.Prelude.{ℕ, ◌≡◌, List, [], ◌∷◌, true, false, pos, negsuc, length}
+use Rattle.std.specs.Prelude.{ℕ, ◌≡◌, List, [], ◌∷◌, true, false, pos, negsuc, length, Err, Ok}
 use Rattle.memory.specs.Word.{le_at}
 use Rattle.scheme.specs.Map.{delta_of}
 use Rattle.scheme.specs.Scheme.{valid_of, sv32_scheme, root_pa}
 use Rattle.scheme.specs.declared.PagingScheme.{PagingScheme}
 use Rattle.scheme.specs.declared.map.MapKind.TheVariants.{Offset}
-use Rattle.scheme.specs.declared.refusal.Asked.TheVariants.{Is}
 use Rattle.scheme.specs.declared.refusal.Refusal.TheVariants.{TooManyEntries}
-use Rattle.scheme.specs.declared.refusal.Said.TheVariants.{Granted, Refused}
 use Rattle.walks.specs.Plain.{Bytes}
 use Rattle.entry.specs.Geometry.{entries_for, sets_for, default_config}
 use Rattle.entry.specs.declared.TlbConfig.{TlbConfig}
@@ -48,11 +46,11 @@ P4 = (entries_for 32 3 ≡ 33) × (sets_for 32 3 ≡ 11)
 
 -- "P5 128 and 4: 128"
 abbrev pub P5 : Type 0
-P5 = (entries_for 128 4 ≡ 128) × ((new_of (config_of 128 4)).said ≡ Granted)
+P5 = (entries_for 128 4 ≡ 128) × ((new_of (config_of 128 4)).said ≡ Ok tt)
 
 -- "P6 128 and 3: 129, refused"
 abbrev pub P6 : Type 0
-P6 = (entries_for 128 3 ≡ 129) × ((new_of (config_of 128 3)).said ≡ Refused TooManyEntries)
+P6 = (entries_for 128 3 ≡ 129) × ((new_of (config_of 128 3)).said ≡ Err TooManyEntries)
 
 -- "P7 0 and 0: one entry"
 abbrev pub P7 : Type 0
@@ -64,12 +62,12 @@ P8 = (delta_of (Offset (negsuc 0)) ≡ 0xFFF0_0000) × (delta_of (Offset (pos 40
 
 -- "P9 `root_pa` of 65536 for Sv32: F000; of 100: 0"
 abbrev pub P9 : Type 0
-P9 = (root_pa sv32_scheme 65536 ≡ Is 0xF000) × (root_pa sv32_scheme 100 ≡ Is 0)
+P9 = (root_pa sv32_scheme 65536 ≡ Ok 0xF000) × (root_pa sv32_scheme 100 ≡ Ok 0)
 
 -- a RAM that case T leaves the words DF and 0010005F in, once its map is installed and nothing refused
 abbrev pub EndsAsT : List ℕ → Type 0
 EndsAsT ram =
-    (install_said sv32_scheme map_t window_t 4096 ram ≡ Granted)
+    (install_said sv32_scheme map_t window_t 4096 ram ≡ Ok tt)
     × (le_at 4 (end_t ram) 4096 ≡ 0xDF)
     × (le_at 4 (end_t ram) 4100 ≡ 0x0010_005F)
 

@@ -1,2 +1,2 @@
-pub mod PowUp
 pub mod Laws
+pub mod PowUp

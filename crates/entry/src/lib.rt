@@ -1,8 +1,8 @@
 // One entry of the TLB, the replacement policies, and how many entries and sets a configuration gives. All by value, over entries and numbers.
 #![tactic(auto)]
 
-ghost use Rattle.std.specs.Prelude.{◌≡◌, true, ◌/◌, ◌%◌, ◌^◌, ◌<◌, max};
-ghost use Rattle.entry.specs.Entry.{blank, marked, matches_of, touched_of, is_clock, fresh_of, cleared_of, unreferenced_of, better_of};
+ghost use Rattle.std.specs.Prelude.{◌≡◌, false, true, ◌/◌, ◌%◌, ◌^◌, ◌<◌, max};
+ghost use Rattle.entry.specs.Entry.{blank, marked, matches_of, touched_of, is_clock, fresh_of, better_of};
 ghost use Rattle.entry.specs.Geometry.{default_config, pow_up, ways_for, entries_for, sets_for};
 
 // Six ways to pick the slot that an install gives up.
@@ -45,18 +45,17 @@ pub struct TlbConfig {
 pub fn blank_entry() -> TlbEntry
     ensures { result ≡ blank }
 {
-    let none = pte::PtePerms {
-        r: false,
-        w: false,
-        x: false,
-        u: false,
-    };
     TlbEntry {
         vpn: 0,
         ppn: 0,
         age: 0,
         asid: 0,
-        perms: none,
+        perms: pte::PtePerms {
+            r: false,
+            w: false,
+            x: false,
+            u: false,
+        },
         valid: false,
         global: false,
         accessed: false,
@@ -69,17 +68,17 @@ pub fn blank_entry() -> TlbEntry
 pub fn default_config() -> TlbConfig
     ensures { result ≡ default_config }
 {
-    let lru = ReplacementPolicy::Lru;
     TlbConfig {
         entry_count: 32,
         associativity: 4,
-        replacement: lru,
+        replacement: ReplacementPolicy::Lru,
         hit_latency: 1,
         miss_penalty: 20,
     }
 }
 
 // Whether a cached entry answers for a page of an address space. One test with no branch.
+#[tactic(auto, unfolding(crate::specs::Entry::matches_of))]
 pub fn matches(e: TlbEntry, vpn: u64, asid: u16) -> bool
     ensures { result ≡ matches_of e vpn asid }
 {
@@ -88,33 +87,17 @@ pub fn matches(e: TlbEntry, vpn: u64, asid: u16) -> bool
     e.valid & (e.global | (e.asid == asid)) & same
 }
 
-fn aged(e: TlbEntry, age: u32) -> TlbEntry
-    ensures { result ≡ marked e e.valid age e.ref_bit }
-{
-    let mut f = e;
-    f.age = age;
-    f
-}
-
-fn referenced(e: TlbEntry) -> TlbEntry
-    ensures { result ≡ marked e e.valid e.age true }
-{
-    let mut f = e;
-    f.ref_bit = true;
-    f
-}
-
 // What a found probe leaves in the entry.
 pub fn touched(e: TlbEntry, policy: ReplacementPolicy, age: u32) -> TlbEntry
     ensures { result ≡ touched_of policy age e }
 {
     match policy {
-        ReplacementPolicy::Lru => aged(e, age),
-        ReplacementPolicy::Mru => aged(e, age),
-        ReplacementPolicy::Fifo => e,
-        ReplacementPolicy::Lfu => aged(e, age),
-        ReplacementPolicy::Clock => referenced(e),
-        ReplacementPolicy::Random => e,
+        ReplacementPolicy::Lru | ReplacementPolicy::Mru | ReplacementPolicy::Lfu => TlbEntry {
+            age,
+            ..e
+        },
+        ReplacementPolicy::Clock => TlbEntry { ref_bit: true, ..e },
+        ReplacementPolicy::Fifo | ReplacementPolicy::Random => e,
     }
 }
 
@@ -122,108 +105,62 @@ pub fn touched(e: TlbEntry, policy: ReplacementPolicy, age: u32) -> TlbEntry
 pub fn is_clock(policy: ReplacementPolicy) -> bool
     ensures { result ≡ is_clock policy }
 {
-    match policy {
-        ReplacementPolicy::Lru => false,
-        ReplacementPolicy::Mru => false,
-        ReplacementPolicy::Fifo => false,
-        ReplacementPolicy::Lfu => false,
-        ReplacementPolicy::Clock => true,
-        ReplacementPolicy::Random => false,
-    }
+    matches!(policy, ReplacementPolicy::Clock)
 }
 
 // An entry as it is laid in its slot.
 pub fn fresh(e: TlbEntry, policy: ReplacementPolicy, age: u32) -> TlbEntry
     ensures { result ≡ fresh_of policy age e }
 {
-    let mut f = e;
-    f.valid = true;
-    f.age = age;
-    f.ref_bit = is_clock(policy) | e.ref_bit;
-    f
-}
-
-// What the clock's hand leaves in an entry that it passes.
-pub fn unreferenced(e: TlbEntry) -> TlbEntry
-    ensures { result ≡ unreferenced_of e }
-{
-    let mut f = e;
-    f.ref_bit = false;
-    f
-}
-
-// An entry after a flush: of everything, or of one page in every address space.
-pub fn cleared(all: bool, e: TlbEntry, vpn: u64) -> TlbEntry
-    ensures { result ≡ cleared_of all vpn e }
-{
-    let mut f = e;
-    if all | matches(e, vpn, e.asid) {
-        f.valid = false;
+    TlbEntry {
+        valid: true,
+        age,
+        ref_bit: is_clock(policy) | e.ref_bit,
+        ..e
     }
-    f
 }
 
-// Whether an age takes the place of the best so far: a smaller one, or for the newest one no smaller.
-pub fn better(newest: bool, age: u32, best: u32) -> bool
-    ensures { result ≡ better_of newest age best }
+// Whether an age takes the place of the best so far where the smallest is wanted: the first of them stays.
+pub fn is_lower(age: u32, best: u32) -> bool
+    ensures { result ≡ better_of false age best }
 {
-    if newest {
-        return best <= age;
-    }
     age < best
+}
+
+// And where the greatest is wanted: the last of them is taken.
+pub fn is_no_lower(age: u32, best: u32) -> bool
+    ensures { result ≡ better_of true age best }
+{
+    best <= age
 }
 
 // Ways are at least 1.
 pub fn ways_of(associativity: u8) -> usize
     ensures { result ≡ ways_for associativity }
 {
-    if associativity == 0 {
-        1
-    } else {
-        associativity as usize
-    }
+    usize::from(associativity.max(1))
 }
 
 // The least power of two that is at least n.
+#[tactic(auto, using(crate::proofs::PowUp::least_is))]
 pub fn pow_up(n: u16) -> u32
     ensures { result ≡ pow_up 16 1 n }
 {
-    let end = n as u32;
-    let mut p: u32 = 1;
-    let mut left: u32 = 16;
-    while 0 < left {
-        if end <= p {
-            return p;
-        }
-        p = p * 2;
-        left -= 1;
-    }
-    p
-}
-
-fn larger(a: usize, b: usize) -> usize
-    ensures { result ≡ max a b }
-{
-    if a < b { b } else { a }
-}
-
-fn at_least_one(n: u16) -> u16
-    ensures { result ≡ max 1 n }
-{
-    if n == 0 { 1 } else { n }
+    u32::from(n).next_power_of_two()
 }
 
 // The entries that a configuration gives: more than 16 bits, at the most 65790.
+#[tactic(auto, unfolding(crate::specs::Geometry::entries_for))]
 pub fn entries_for(count: u16, ways: u8) -> usize
     ensures { result ≡ entries_for count ways }
 {
     let w = ways_of(ways);
-    let raised = pow_up(at_least_one(count)) as usize;
-    let most = larger(raised, w);
+    let most = (pow_up(count.max(1)) as usize).max(w);
     (most + (w - 1)) / w * w
 }
 
 // The sets that they make.
+#[tactic(auto, unfolding(crate::specs::Geometry::sets_for))]
 pub fn sets_for(count: u16, ways: u8) -> usize
     ensures { result ≡ sets_for count ways }
 {

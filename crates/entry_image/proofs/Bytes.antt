@@ -1,12 +1,10 @@
--- The bytes of a number, stored one after the other, and how many they are.
-use Prim.Native.Nat.{ℕ, zero, suc, ◌+◌, ◌-◌, ◌*◌, ◌/◌, ◌%◌, ◌<◌, ◌≤◌}
-use native.Mathlib.Nat.{add_assoc}
-use native.Mathlib.Omega.{arith}
-use Rattle.memory.specs.Word.{le_at}
-use mathlib.Core.Path.{◌≡◌, refl, ap}
-use mathlib.Core.List.{List}
-use lib.ListN.{length, set}
-use lib.Seq.{sets}
+-- The bytes of a number, how many they are, and that std's are the same.
+use Rattle.std.proofs.Common.{◌≡◌, ◌∙◌, refl, sym, ap, ℕ, zero, suc, ◌/◌, ◌%◌, ◌^◌, List, length, arith}
+use Rattle.std.proofs.Math.Nat.{div-div-eq-div-mul, div-one, pow-suc}
+use Rattle.std.specs.Int.{Width, byte_at, byte_len, bytes_low_first, to_le_bytes}
+use Rattle.writer.specs.Wrote.{Wrote}
+use Rattle.writer.specs.declared.Out.{Out}
+use Rattle.writer.proofs.Wrotes.{within, as_text}
 use Rattle.entry_image.specs.EntryImage.{le_bytes}
 
 pub length_le : (n v : ℕ) → length (le_bytes n v) ≡ n
@@ -14,29 +12,23 @@ unfolding le_bytes
 length_le zero v = refl
 length_le (suc n) v = ap suc (length_le n (v / 256))
 
--- nothing is stored yet
-pub first_byte : (out : List ℕ) (at n v : ℕ) → sets out (at + 0) (le_bytes (n - 0) v) ≡ sets out at (le_bytes n v)
-first_byte out at n v =
-    let e : at + 0 ≡ at = omega arith in
-    let f : n - 0 ≡ n = omega arith in
-    rw (e, f)
+byte : (i v : ℕ) → byte_at i v ≡ v / 256 ^ i % 256
+byte zero v = ap (λ (x : ℕ). x % 256) (sym (div-one v))
+byte (suc i) v = refl
 
-module _ (out : List ℕ) (at i n rest : ℕ) where
-  -- the byte at i, and then those that are left
-  pub next_byte : i < n
-      → sets (set out (at + i) (rest % 256)) (at + (i + 1)) (le_bytes (n - (i + 1)) (rest / 256)) ≡ sets out (at + i) (le_bytes (n - i) rest)
-  unfolding le_bytes
-  next_byte h =
-      let e : n - i ≡ suc (n - (i + 1)) = omega arith in
-      let f : at + (i + 1) ≡ suc (at + i) = omega arith in
-      rw (e, f)
+low_first : (i n v : ℕ) → bytes_low_first i n v ≡ le_bytes n (v / 256 ^ i)
+unfolding le_bytes
+low_first i zero v = refl
+low_first i (suc n) v =
+    let rest : v / 256 ^ suc i ≡ v / 256 ^ i / 256 = ap (λ (x : ℕ). v / x) (pow-suc 256 i) ∙ sym (div-div-eq-div-mul v (256 ^ i) 256) in
+    rw (byte i v, low_first (suc i) n v, rest)
 
-  pub no_byte : n ≤ i → sets out (at + i) (le_bytes (n - i) rest) ≡ out
-  unfolding le_bytes
-  no_byte h =
-      let e : n - i ≡ 0 = omega arith in
-      rw e
+std_bytes : (w : Width) (v : ℕ) → to_le_bytes w v ≡ le_bytes (byte_len w) v
+std_bytes w v = low_first 0 (byte_len w) v ∙ ap (le_bytes (byte_len w)) (div-one v)
 
-pub eight : (s : List ℕ) (a : ℕ) → le_at 8 s a ≡ le_at 4 s a + 0x1_0000_0000 * le_at 4 s (a + 4)
-unfolding le_at
-eight s a = simp add_assoc (omega arith)
+-- a number's bytes are put
+pub number : (w : Width) (v : ℕ) {a b : Out} {bs : List ℕ} → bs ≡ to_le_bytes w v → Wrote (length bs) a b bs → Wrote (byte_len w) a b (le_bytes (byte_len w) v)
+number w v {bs = bs} e p =
+    let f : bs ≡ le_bytes (byte_len w) v = e ∙ std_bytes w v in
+    let long : length bs ≡ byte_len w = ap length f ∙ length_le (byte_len w) v in
+    within (omega (arith, long)) (as_text f p)

@@ -1,11 +1,9 @@
--- The entries that are put or read, and those that are left.
-use Prim.Native.Nat.{ℕ, zero, suc, ◌+◌, ◌-◌, ◌≤◌, ◌<◌}
-use native.Mathlib.Numerals.{add-one}
-use native.Mathlib.Omega.{arith}
-use mathlib.Core.Path.{◌≡◌, refl, ap, ◌∙◌}
-use mathlib.Core.List.{List, [], ◌++◌, append-nil}
-use lib.ListN.{length, set, drop, drop_of_length-le}
-use lib.Seq.{drop-cons, sets, sets-eq}
+-- The entries that are put, and those that are left; those that are read at their numbers.
+use Rattle.std.proofs.Common.{◌≡◌, ℕ, zero, suc, ◌+◌, ◌*◌, ◌<◌, ◌≤◌, List, [], ◌++◌, length, drop, add-one, drop-cons, arith}
+use Rattle.std.proofs.lemmas.List.{drop_all}
+use Rattle.std.specs.Array.{IsFromFnResultFrom}
+use Rattle.std.specs.Fn.{Called}
+use denote.Param.Members.{Mut}
 use Rattle.entry.specs.Entry.{blank}
 use Rattle.entry.specs.declared.TlbEntry.{TlbEntry}
 use Rattle.slots.specs.Slots.{entry_at}
@@ -18,32 +16,17 @@ module _ (es : List TlbEntry) (i : ℕ) where
 
   pub no_entry : length es ≤ i → entries_image (drop i es) ≡ []
   unfolding entries_image
-  no_entry h = rw (drop_of_length-le es h)
+  no_entry h = rw (drop_all i es h)
 
 -- ---- read
 
--- stores over the whole of a list leave what was stored
-pub sets_all : {A : Type 0} (l vs : List A) → length l ≡ length vs → sets l 0 vs ≡ vs
-sets_all l vs e =
-    let h : 0 + length vs ≤ length l = omega arith in
-    sets-eq vs l 0 h ∙ ap (λ r. vs ++ r) (drop_of_length-le l {i = 0 + length vs} (omega arith)) ∙ append-nil vs
-
-pub length_read : (s : List ℕ) (p n : ℕ) → length (entries_read s p n) ≡ n
-unfolding entries_read
-length_read s p zero = refl
-length_read s p (suc n) = ap suc (length_read s (p + 25) n)
-
-module _ (s : List ℕ) (es : List TlbEntry) (p i : ℕ) where
-  pub next_read : i < 128
-      → sets (set es i (entry_read s p)) (i + 1) (entries_read s (p + 25) (128 - (i + 1))) ≡ sets es i (entries_read s p (128 - i))
+-- the calls of g each read an entry: p is the place of entry i
+module _ {F : Type 0} (g : Mut F (ℕ × Unit {0}) TlbEntry) (f : F) (s : List ℕ) (at : ℕ)
+    (reads : (i : ℕ) (e : TlbEntry) (q : F) → Called g f (i, tt) e q → (q ≡ f) × (e ≡ entry_read s (at + 25 * i))) where
+  pub all_read : (es : List TlbEntry) (i n p : ℕ) → p ≡ at + 25 * i → i + n ≡ length es → IsFromFnResultFrom g f es i n → drop i es ≡ entries_read s p n
   unfolding entries_read
-  next_read h =
-      let e : 128 - i ≡ suc (128 - (i + 1)) = omega arith in
-      let f : i + 1 ≡ suc i = omega arith in
-      rw (e, f)
-
-  pub no_read : 128 ≤ i → es ≡ sets es i (entries_read s p (128 - i))
-  unfolding entries_read
-  no_read h =
-      let e : 128 - i ≡ 0 = omega arith in
-      rw e
+  all_read es i zero p e m made = drop_all i es (omega arith)
+  all_read es i (suc n) p e m made =
+      let one = reads i made.1 made.0 made.3 in
+      let rest = all_read es (i + 1) n (p + 25) (omega arith) (omega arith) (rw one.0 at made.4) in
+      rw (drop-cons es i blank (omega arith), ← (add-one i), rest, made.2.1 blank, one.1, e)

@@ -14,16 +14,15 @@ ghost use Rattle.imaged_run.specs.Records.{opened_said, records_text, records_ra
 ghost use Rattle.by_bytes.specs.Numbers.{installed_said, installed_ram, walk_number, told_after, ram_after, root_number};
 ghost use Rattle.ffi.specs.Exports.{ran_number, state_short, state_ran, state_buffer};
 
-use run::Ran;
+use run::TooShort;
 use scheme::MapKind;
 
-fn ran_number(ran: Ran) -> usize
+// A run's answer as C reads it: the bytes of output, or the largest number where a buffer is too short.
+#[tactic(auto, unfolding(crate::specs::Exports::ran_number))]
+fn ran_number(ran: Result<usize, TooShort>) -> usize
     ensures { result ≡ ran_number ran }
 {
-    match ran {
-        Ran::Wrote(n) => n,
-        Ran::TooShort => 0xFFFF_FFFF_FFFF_FFFF,
-    }
+    ran.unwrap_or(usize::MAX)
 }
 
 // Runs a bundle: the bytes of output that are put at the start of `out`. RAM is left at the start of `ram`.
@@ -32,11 +31,11 @@ pub fn muntesulca_run(file: &[u8], ram: &mut [u8], out: &mut [u8]) -> usize
         × (out.new ≡ ran_buffer (too_short file.now (length ram.old) (length out.old)) out.old (output_of file.now))
         × (ram.new ≡ ran_buffer (too_short file.now (length ram.old) (length out.old)) ram.old (end_ram_of file.now)) }
 {
-    let ran = run::run(file, ram, out);
-    ran_number(ran)
+    ran_number(run::run(file, ram, out))
 }
 
 // The same, and the image of the state that is left, at the start of `state`.
+#[tactic(auto, unfolding(crate::specs::Exports::ran_number))]
 pub fn muntesulca_run_state(file: &[u8], ram: &mut [u8], out: &mut [u8], state: &mut [u8]) -> usize
     ensures { (result ≡ ran_number (state_ran file.now (length ram.old) (length out.old) (length state.old)))
         × (out.new ≡ ran_buffer (state_short file.now (length ram.old) (length out.old) (length state.old)) out.old (output_of file.now))
@@ -44,18 +43,13 @@ pub fn muntesulca_run_state(file: &[u8], ram: &mut [u8], out: &mut [u8], state: 
         × (state.new ≡ state_buffer (state_short file.now (length ram.old) (length out.old) (length state.old)) file.now state.old) }
 {
     if state.len() < 3416 {
-        return 0xFFFF_FFFF_FFFF_FFFF;
+        return usize::MAX;
     }
     let k = run::run_kept(file, ram, out);
-    let ran = k.said;
-    match ran {
-        Ran::TooShort => 0xFFFF_FFFF_FFFF_FFFF,
-        Ran::Wrote(n) => {
-            let m = k.mmu;
-            image::put_state(m, state);
-            n
-        }
+    if k.said.is_ok() {
+        image::put_state(k.mmu, state);
     }
+    ran_number(k.said)
 }
 
 // A list of records on a state's image: the bytes of output that are put at the start of `out`.
@@ -65,8 +59,7 @@ pub fn muntesulca_records(image: &mut [u8], records: &[u8], ram: &mut [u8], out:
         × (ram.new ≡ cond (records_short image.old records.now (length out.old)) ram.old (records_ram image.old records.now ram.old))
         × (image.new ≡ cond (records_short image.old records.now (length out.old)) image.old (records_image image.old records.now ram.old)) }
 {
-    let ran = imaged_run::run_records(image, records, ram, out);
-    ran_number(ran)
+    ran_number(imaged_run::run_records(image, records, ram, out))
 }
 
 // The same for the state and the RAM alone: the refusal's number, or 0.
@@ -178,6 +171,5 @@ pub fn muntesulca_make_satp39(root: u64, asid: u16) -> u64
 pub fn muntesulca_delta_bytes(mib: i32) -> u32
     ensures { result ≡ delta_of (Offset mib) }
 {
-    let kind = MapKind::Offset(mib);
-    kind.delta_bytes()
+    MapKind::Offset(mib).delta_bytes()
 }

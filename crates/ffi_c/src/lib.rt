@@ -1,5 +1,5 @@
 // What a host in C or Rust links: the functions of `ffi` under their own names, a slice as a pointer and a length. Each states the clauses of the
-// function that it calls, letter for letter.
+// function that it calls, letter for letter. A crate is a library or a static library, so both stand.
 #![tactic(auto)]
 
 ghost use Rattle.std.specs.Prelude.{◌≡◌, cond, length};

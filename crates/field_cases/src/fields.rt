@@ -1,30 +1,33 @@
 // Fields of words: masks at both ends, and the entry's questions.
 use pte::Pte;
+use show::{Hex, YesNo};
+use std::io;
 
 // An entry of 32 bits has no high bits to be told.
-pub fn entry(raw: u64, wide: bool) {
+pub fn entry(rt: &impl Print, raw: u64, wide: bool) -> io::Result<()> {
     let e = Pte::new(raw);
-    show::text(b"pte");
-    show::hex(raw);
-    show::flag(e.valid());
-    show::flag(e.is_leaf());
-    show::flag(e.global());
-    show::flag(e.accessed());
-    show::flag(e.dirty());
-    show::hex(e.ppn());
-    show::hex(e.with_a().raw);
-    show::hex(e.with_d().raw);
+    print!(rt; "pte {}", Hex(raw))?;
+    print!(rt;
+        " {} {} {}",
+        YesNo(e.valid()),
+        YesNo(e.is_leaf()),
+        YesNo(e.global())
+    )?;
+    print!(rt;
+        " {} {} {}",
+        YesNo(e.accessed()),
+        YesNo(e.dirty()),
+        Hex(e.ppn())
+    )?;
+    print!(rt; " {} {}", Hex(e.with_a().raw), Hex(e.with_d().raw))?;
     if wide {
-        show::flag(e.high());
+        print!(rt; " {}", YesNo(e.high()))?;
     }
-    show::end();
+    println!(rt)
 }
 
 // The low k bits of x, and y with them.
-pub fn masks(k: u32, x: u64, y: u64) {
-    show::text(b"low");
-    show::num(k);
-    show::hex(bits::low_bits(x, k));
-    show::hex(bits::with_low(y, x, k));
-    show::end();
+pub fn masks(rt: &impl Print, k: u32, x: u64, y: u64) -> io::Result<()> {
+    let low = bits::low_bits(x, k);
+    println!(rt; "low {k} {} {}", Hex(low), Hex(bits::with_low(y, x, k)))
 }

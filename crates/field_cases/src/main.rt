@@ -3,36 +3,28 @@
 #![tactic(auto)]
 
 use script::Step;
+use std::io;
 
 mod fields;
 mod schemes;
 mod words;
 
-fn perform(ram: &mut [u8], s: Step) {
-    let op = s.op;
-    match op {
-        b'#' => (),
-        b'b' => fields::masks(script::low(s.a), s.b, s.c),
-        b'e' => fields::entry(s.a, s.wide),
-        b'w' | b'l' => words::within(ram, s),
-        b'p' => schemes::scheme(tell::scheme_of(s.a, s.b, s.c)),
-        b's' => schemes::satp(s.a, s.wide),
-        b'k' => schemes::made(s.a, (s.b % 65536) as u16, s.wide),
-        b'd' => schemes::delta(s.a, s.b),
-        _ => script::bad_line(),
+fn perform(rt: &impl Print, ram: &mut [u8], s: Step) -> io::Result<()> {
+    match s.op {
+        b'b' => fields::masks(rt, script::low(s.a), s.b, s.c),
+        b'e' => fields::entry(rt, s.a, s.wide),
+        b'w' => words::store(rt, ram, script::low(s.a), script::low(s.b), s.c),
+        b'l' => words::load(rt, ram, script::low(s.a), s.c),
+        b'p' => schemes::scheme(rt, tell::scheme_of(s.a, s.b, s.c)),
+        b's' => schemes::satp(rt, s.a, s.wide),
+        b'k' => schemes::made(rt, s.a, (s.b % 65536) as u16, s.wide),
+        b'd' => schemes::delta(rt, s.a, s.b),
+        _ => script::bad_line(rt),
     }
 }
 
-// Nothing says that the script ends, so the loop counts its turns down, from a number that no run uses up.
-fn main() {
-    let mut ram = io::buffer();
-    let mut turns = u64::MAX;
-    while turns > 0 {
-        let s = script::next_step();
-        if s.op == 0 {
-            return;
-        }
-        perform(&mut ram, s);
-        turns -= 1;
-    }
+// A failed write ends the run and is not reported.
+fn main(rt: HostRuntime) {
+    let mut ram = [0u8; 4096];
+    let _ = script::run(&rt, |s| perform(&rt, &mut ram, s));
 }

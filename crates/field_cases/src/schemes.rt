@@ -1,110 +1,93 @@
 // Schemes, satp, and the map's offset.
-use scheme::{Asked, PagingScheme, Said, Satp, SatpMode};
+use scheme::{PagingScheme, Refusal, Satp, SatpMode};
+use show::{Hex, YesNo};
+use std::io;
 
-fn answer(a: Asked) {
+fn answer(rt: &impl Print, a: Result<u64, Refusal>) -> io::Result<()> {
     match a {
-        Asked::Is(n) => show::hex(n),
-        Asked::Refused(r) => {
-            show::text(b" refused");
-            show::num(r.number());
-        }
+        Ok(n) => print!(rt; " {}", Hex(n)),
+        Err(r) => tell::refused(rt, r),
     }
 }
 
-fn classes(s: PagingScheme) {
-    let c = s.leaf_masks();
-    let said = c.said;
-    let masks = c.masks;
-    show::text(b"  classes");
-    match said {
-        Said::Granted => {
-            show::small(c.count);
-            show::small(masks[0]);
-            show::small(masks[1]);
-            show::small(masks[2]);
-            show::small(masks[3]);
-        }
-        Said::Refused(r) => {
-            show::text(b" refused");
-            show::num(r.number());
-        }
-    }
-    show::end();
-}
-
-fn level(s: PagingScheme, l: u8) {
-    show::text(b"  level");
-    show::small(l);
-    answer(s.shift_at(l));
-    answer(s.page_bytes_at(l));
-    answer(s.entries_at(l));
-    show::end();
-}
-
-pub fn scheme(s: PagingScheme) {
-    show::text(b"scheme");
-    show::small(s.offset_bits);
-    show::small(s.num_levels());
-    show::num(s.total_bits());
-    show::flag(s.is_valid());
-    answer(s.root_pa(65536));
-    show::end();
-    classes(s);
-    level(s, 0);
-    level(s, 3);
-}
-
-fn board(wide: bool) -> PagingScheme {
-    if wide {
-        PagingScheme::sv39()
-    } else {
-        PagingScheme::sv32()
-    }
-}
-
-fn mode_name(mode: SatpMode, wide: bool) {
-    match mode {
-        SatpMode::Bare => show::text(b" bare"),
-        SatpMode::Paged => {
-            if wide {
-                show::text(b" sv39");
-            } else {
-                show::text(b" sv32");
+fn classes(rt: &impl Print, s: PagingScheme) -> io::Result<()> {
+    print!(rt; "  classes")?;
+    match s.leaf_masks() {
+        Ok(c) => {
+            print!(rt; " {}", c.count)?;
+            for mask in &c.masks {
+                print!(rt; " {mask}")?;
             }
         }
-        SatpMode::Neither => show::text(b" neither"),
+        Err(r) => tell::refused(rt, r)?,
+    }
+    println!(rt)
+}
+
+fn level(rt: &impl Print, s: PagingScheme, l: u8) -> io::Result<()> {
+    print!(rt; "  level {l}")?;
+    answer(rt, s.shift_at(l))?;
+    answer(rt, s.page_bytes_at(l))?;
+    answer(rt, s.entries_at(l))?;
+    println!(rt)
+}
+
+pub fn scheme(rt: &impl Print, s: PagingScheme) -> io::Result<()> {
+    print!(rt;
+        "scheme {} {} {}",
+        s.offset_bits,
+        s.num_levels(),
+        s.total_bits()
+    )?;
+    print!(rt; " {}", YesNo(s.is_valid()))?;
+    answer(rt, s.root_pa(65536))?;
+    println!(rt)?;
+    classes(rt, s)?;
+    level(rt, s, 0)?;
+    level(rt, s, 3)
+}
+
+fn mode_name(mode: SatpMode, wide: bool) -> &'static str {
+    match mode {
+        SatpMode::Bare => "bare",
+        SatpMode::Paged if wide => "sv39",
+        SatpMode::Paged => "sv32",
+        SatpMode::Neither => "neither",
     }
 }
 
 // The fields of a satp, of Sv32 or of Sv39.
-pub fn satp(raw: u64, wide: bool) {
-    let s = board(wide);
+pub fn satp(rt: &impl Print, raw: u64, wide: bool) -> io::Result<()> {
+    let s = if wide {
+        PagingScheme::sv39()
+    } else {
+        PagingScheme::sv32()
+    };
     let r = Satp::new(raw);
-    show::text(b"satp");
-    show::hex(raw);
-    mode_name(s.satp_mode(r), wide);
-    show::num(s.asid_of(r) as u32);
-    show::hex(s.root_of(r));
-    show::end();
+    let mode = mode_name(s.satp_mode(r), wide);
+    println!(rt;
+        "satp {} {mode} {} {}",
+        Hex(raw),
+        s.asid_of(r),
+        Hex(s.root_of(r))
+    )
 }
 
 // The same of the one that is made for a root and an ASID.
-pub fn made(root: u64, asid: u16, wide: bool) {
-    if wide {
-        satp(scheme::make_satp39(root, asid), true);
+pub fn made(rt: &impl Print, root: u64, asid: u16, wide: bool) -> io::Result<()> {
+    let raw = if wide {
+        scheme::make_satp39(root, asid)
     } else {
-        satp(scheme::make_satp(script::low(root), asid) as u64, false);
-    }
+        u64::from(scheme::make_satp(script::low(root), asid))
+    };
+    satp(rt, raw, wide)
 }
 
 // The byte delta of a map, whose kind and MiB are read as the trace bundle has them.
-pub fn delta(kind: u64, mib: u64) {
+pub fn delta(rt: &impl Print, kind: u64, mib: u64) -> io::Result<()> {
     let mut bytes = [0u8; 20];
     tell::put(&mut bytes, 0, 0x100 * (kind % 256), false);
     tell::put(&mut bytes, 4, mib, false);
     let spec = bundle::body_at(&bytes, 0).spec;
-    let kind = spec.kind;
-    show::text(b"delta");
-    show::hex(kind.delta_bytes() as u64);
-    show::end();
+    println!(rt; "delta {}", Hex(u64::from(spec.kind.delta_bytes())))
 }

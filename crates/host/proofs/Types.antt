@@ -2,13 +2,20 @@
 -- is read off the modules that the check makes of the type.
 -- Assumes nothing.
 use mathlib.Core.Path.{refl}
-use mathlib.Core.List.{[], ◌∷◌}
+use mir.Syntax.{ty_enum, ty_unit, tcons, tnil, ttcons, ttnil}
+use Rattle.std.specs.Prelude.{codes}
+use denote.Builtin.{unit}
+use denote.Param.Laws as PL
+use denote.Param.Shared.{copy_shared}
+use denote.Struct.Field.{unit-field}
 use denote.Struct.Laws as LL
 use Rattle.host.specs.Lent.{kept, served}
 use Rattle.scheme.specs.contracts.PagingScheme as PagingScheme
 use Rattle.scheme.proofs.PagingScheme.TheLaws as PagingScheme'
-use Rattle.scheme.specs.contracts.refusal.Said as Said
-use Rattle.scheme.proofs.refusal.Said.TheLaws as Said'
+use Rattle.scheme.specs.contracts.refusal.Refusal as Refusal
+use Rattle.scheme.proofs.refusal.Refusal.TheLaws as Refusal'
+use Rattle.std.specs.contracts.result.Result as Result
+use Rattle.std.proofs.result.Result.TheLaws as Result'
 use Rattle.walk.specs.contracts.Access as Access
 use Rattle.walk.proofs.Access.TheLaws as Access'
 use Rattle.entry.specs.contracts.TlbConfig as TlbConfig
@@ -35,17 +42,27 @@ config = struct_value TlbConfig.the_type TlbConfig'.the_laws TlbConfig'.the_plai
 abbrev pub access : Value
 access = struct_value Access.the_type Access'.the_laws Access'.the_plain Access'.the_copy Access'.mir refl
 
+-- `()`, as the laws of a type parameter's argument have it
+abbrev unit_laws : PL.Laws unit
+unit_laws = PL.of_field unit-field LL.unit-laws refl (copy_shared unit-field LL.unit-copy)
+
+-- `Result<(), Refusal>`
 abbrev pub said : Value
-said = enum_value Said.the_type Said'.the_laws tt Said'.the_plain Said'.the_copy Said'.mir refl
+said =
+    enum_value (Result.the_type unit Refusal.the_row)
+    (Result'.the_laws unit Refusal.the_row unit_laws Refusal'.the_row_laws (PL.field_told unit-field LL.unit-laws) Refusal'.the_told) tt
+    (Result'.the_plain unit Refusal.the_row LL.unit-plain Refusal'.the_row_plain)
+    (Result'.the_copy unit Refusal.the_row unit_laws Refusal'.the_row_laws (PL.of_copyable unit-field LL.unit-copy) Refusal'.the_row_copy)
+    (ty_enum (codes "core::result::Result") (ttcons (tcons ty_unit tnil) (ttcons (tcons Refusal'.mir tnil) ttnil))) refl
 
 abbrev pub answer : Value
 answer = struct_value Answer.the_type Answer'.the_laws Answer'.the_plain Answer'.the_copy Answer'.mir refl
 
--- each by its name in the code, as ASCII codes
+-- each by its name in the code
 abbrev pub kept_both : Beside said mmu
 kept_both = record {
   row = Kept.the_row;
-  name = 109 ∷ 109 ∷ 117 ∷ 58 ∷ 58 ∷ 75 ∷ 101 ∷ 112 ∷ 116 ∷ [];
+  name = codes "mmu::Kept";
   answer = λ r. r.said;
   state = λ r. r.mmu;
   both = kept;
@@ -64,7 +81,7 @@ kept_both = record {
 abbrev pub served_both : Beside answer mmu
 served_both = record {
   row = Served.the_row;
-  name = 97 ∷ 99 ∷ 99 ∷ 101 ∷ 115 ∷ 115 ∷ 58 ∷ 58 ∷ 83 ∷ 101 ∷ 114 ∷ 118 ∷ 101 ∷ 100 ∷ [];
+  name = codes "access::Served";
   answer = λ r. r.said;
   state = λ r. r.mmu;
   both = served;

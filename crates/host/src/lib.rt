@@ -1,6 +1,6 @@
-// The host's calls: one MMU is kept for the session and lent to each call. Each takes the state out, calls the by-value
-// core, stores the state that comes back, and returns the answer. Each is proved by a walk of its code; the walk is a law
-// of the crate `lent`, one for each shape of call.
+// The host's calls: one MMU is kept for the session and lent to each call. Document 01 wants them thin, over a core that goes by value, so both
+// kinds stand. Each takes the state out, calls the core, stores the state that comes back, and returns the answer. Each is proved by a walk of its
+// code; the walk is a law of the crate `lent`, one for each shape of call.
 #![tactic(auto)]
 
 ghost use Rattle.std.specs.Prelude.{◌≡◌};
@@ -9,11 +9,11 @@ ghost use Rattle.host.specs.Lent.{kept, served};
 
 use access::Answer;
 use entry::TlbConfig;
-use scheme::{PagingScheme, Said};
+use scheme::{PagingScheme, Refusal};
 use state::Mmu;
 use walk::Access;
 
-pub fn set_scheme(m: &mut Mmu, s: PagingScheme) -> Said
+pub fn set_scheme(m: &mut Mmu, s: PagingScheme) -> Result<(), Refusal>
     ensures { kept result m.new ≡ set_scheme_of m.old s }
 {
     let t = mmu::set_scheme(*m, s);
@@ -21,7 +21,7 @@ pub fn set_scheme(m: &mut Mmu, s: PagingScheme) -> Said
     t.said
 }
 
-pub fn reconfigure(m: &mut Mmu, config: TlbConfig) -> Said
+pub fn reconfigure(m: &mut Mmu, config: TlbConfig) -> Result<(), Refusal>
     ensures { kept result m.new ≡ reconfigure_of m.old config }
 {
     let t = mmu::reconfigure(*m, config);
@@ -29,7 +29,7 @@ pub fn reconfigure(m: &mut Mmu, config: TlbConfig) -> Said
     t.said
 }
 
-pub fn flush(m: &mut Mmu) -> Said
+pub fn flush(m: &mut Mmu) -> Result<(), Refusal>
     ensures { kept result m.new ≡ flush_of m.old }
 {
     let t = mmu::flush(*m);
@@ -37,7 +37,7 @@ pub fn flush(m: &mut Mmu) -> Said
     t.said
 }
 
-pub fn flush_vaddr(m: &mut Mmu, vaddr: u64) -> Said
+pub fn flush_vaddr(m: &mut Mmu, vaddr: u64) -> Result<(), Refusal>
     ensures { kept result m.new ≡ flush_vaddr_of m.old vaddr }
 {
     let t = mmu::flush_vaddr(*m, vaddr);

@@ -1,29 +1,22 @@
 // The MMU's state as bytes, written into a lent buffer: 3,416 of them, little-endian, each field at a fixed place.
-// Each function but the last that writes does so at `at` and answers the place after what it wrote.
 #![tactic(auto)]
 
 ghost use Rattle.std.specs.Prelude.{◌++◌, ◌≡◌, ◌+◌, ◌*◌, ◌≤◌, length};
 ghost use Rattle.entry.specs.Entry.{policy_number};
-ghost use Rattle.writer.specs.Put.{Put};
+ghost use Rattle.writer.specs.Wrote.{HasRoom, Wrote};
 ghost use Rattle.image.specs.Image.{switches_of, config_rest, scheme_image, words_image, head_image, room_in, put_state};
 
 use entry::{ReplacementPolicy, TlbConfig};
-use entry_image::{flag, put_entries, put_le};
+use entry_image::{flag, put_entries};
 use scheme::PagingScheme;
 use state::Mmu;
-use writer::put_bytes;
+use writer::Out;
 
+// Apart from `front`, whose proof does not see the number that `as` gives an enum.
 fn policy_number(p: ReplacementPolicy) -> u8
     ensures { result ≡ policy_number p }
 {
-    match p {
-        ReplacementPolicy::Lru => 0,
-        ReplacementPolicy::Mru => 1,
-        ReplacementPolicy::Fifo => 2,
-        ReplacementPolicy::Lfu => 3,
-        ReplacementPolicy::Clock => 4,
-        ReplacementPolicy::Random => 5,
-    }
+    p as u8
 }
 
 fn switches(enabled: bool, force: bool, tlb_on: bool) -> u8
@@ -36,70 +29,63 @@ fn switches(enabled: bool, force: bool, tlb_on: bool) -> u8
 fn front(c: TlbConfig, on: u8, s: PagingScheme, own: u8) -> [u8; 14]
     ensures { result ≡ config_rest c on ++ scheme_image s own }
 {
-    let p = c.replacement;
-    let policy = policy_number(p);
-    let w = s.level_bits;
+    let [w0, w1, w2, w3] = s.level_bits;
     [
         c.associativity,
-        policy,
+        policy_number(c.replacement),
         c.hit_latency,
         c.miss_penalty,
         on,
         0,
         s.offset_bits,
         s.levels,
-        w[0],
-        w[1],
-        w[2],
-        w[3],
+        w0,
+        w1,
+        w2,
+        w3,
         own,
         0,
     ]
 }
 
 // Eight bytes for each number.
-fn put_words(out: &mut [u8], at: usize, ws: &[u64]) -> usize
-    requires { at + 8 * length ws.now ≤ length out.old }
-    ensures { Put (8 * length ws.now) out.old out.new at result (words_image ws.now) }
+fn put_words(out: &mut Out<'_>, ws: &[u64])
+    requires { HasRoom (8 * length ws.now) out.old }
+    ensures { Wrote (8 * length ws.now) out.old out.new (words_image ws.now) }
 {
-    let mut next = at;
-    let mut i = 0;
-    while i < ws.len() {
-        next = put_le(out, next, 8, ws[i]);
-        i += 1;
+    for w in ws {
+        out.bytes(&w.to_le_bytes());
     }
-    next
 }
 
 // Everything but the classes, the hands and the entries.
-fn put_head(out: &mut [u8], at: usize, m: Mmu) -> usize
-    requires { at + 84 ≤ length out.old }
-    ensures { Put 84 out.old out.new at result (head_image m) }
+fn put_head(out: &mut Out<'_>, m: Mmu)
+    requires { HasRoom 84 out.old }
+    ensures { Wrote 84 out.old out.new (head_image m) }
 {
     let t = m.tlb;
-    let config = t.config;
     let stats = t.stats;
-    let scheme = m.scheme;
-    let satp = m.satp;
     let on = switches(m.enabled, m.force_translate, m.tlb_enabled);
-    let bytes = front(config, on, scheme, t.offset_bits);
-    let words = [
-        t.count as u64,
-        t.sets as u64,
-        t.mask_count as u64,
-        stats.hits,
-        stats.misses,
-        stats.evictions,
-        stats.page_faults,
-    ];
-    let a = put_le(out, at, 2, config.entry_count as u64);
-    let b = put_bytes(out, a, &bytes);
-    let c = put_le(out, b, 8, satp.raw);
-    let d = put_le(out, c, 4, t.age_counter as u64);
-    put_words(out, d, &words)
+    out.bytes(&t.config.entry_count.to_le_bytes());
+    out.bytes(&front(t.config, on, m.scheme, t.offset_bits));
+    out.bytes(&m.satp.raw.to_le_bytes());
+    out.bytes(&t.age_counter.to_le_bytes());
+    put_words(
+        out,
+        &[
+            t.count as u64,
+            t.sets as u64,
+            t.mask_count as u64,
+            stats.hits,
+            stats.misses,
+            stats.evictions,
+            stats.page_faults,
+        ],
+    );
 }
 
 // The state's image at the start of a buffer, whose rest is kept; false, and nothing written, where it has no room.
+#[tactic(auto, unfolding(crate::specs::Image::put_state))]
 pub fn put_state(m: Mmu, out: &mut [u8]) -> bool
     ensures { (result ≡ room_in out.old) × (out.new ≡ put_state m out.old) }
 {
@@ -107,12 +93,10 @@ pub fn put_state(m: Mmu, out: &mut [u8]) -> bool
         return false;
     }
     let t = m.tlb;
-    let masks = t.superpage_masks;
-    let hands = t.clock_hands;
-    let es = t.entries;
-    let a = put_head(out, 0, m);
-    let b = put_bytes(out, a, &masks);
-    let c = put_bytes(out, b, &hands);
-    put_entries(out, c, es);
+    let mut image = Out::new(out);
+    put_head(&mut image, m);
+    image.bytes(&t.superpage_masks);
+    image.bytes(&t.clock_hands);
+    put_entries(&mut image, t.entries);
     true
 }

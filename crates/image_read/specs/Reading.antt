@@ -1,21 +1,18 @@
 -- The state that an image holds: each field read at its place. And which strings of bytes are images.
-use Rattle.std.specs.Prelude.{ℕ, ◌+◌, Bool, cond, ◌&&◌, List, [], ◌∷◌, eqb, leb, length}
+use Rattle.std.specs.Prelude.{ℕ, ◌+◌, Bool, cond, ◌&&◌, List, [], ◌∷◌, eqb, leb, length, Err, Ok, Result}
 use Rattle.std.proofs.Math.Seq.{slice}
 use Rattle.bits.specs.Bits.{bit}
 use Rattle.memory.specs.Word.{le_at}
 use Rattle.scheme.specs.Satp.{satp_with}
+use Rattle.scheme.specs.declared.refusal.Refusal.{Refusal}
 use Rattle.scheme.specs.declared.refusal.Refusal.TheVariants.{BadLayout}
-use Rattle.scheme.specs.declared.refusal.Said.TheVariants.{Granted, Refused}
-use Rattle.entry.specs.Geometry.{default_config}
 use Rattle.tlb.specs.declared.TlbStats.{TlbStats}
 use Rattle.tlb.specs.declared.Tlb.{Tlb}
-use Rattle.state.specs.State.{state_new}
 use Rattle.state.specs.declared.Mmu.{Mmu}
 use Rattle.layout.specs.Layout.{byte_at}
 use Rattle.bundle.specs.Parts.{scheme_at, config_at}
 use Rattle.entry_image.specs.EntryImage.{entries_read, refs_ok}
 use Rattle.image.specs.Image.{image_bytes}
-use Rattle.image_read.specs.declared.StateRead.{StateRead}
 
 -- ---- the state
 
@@ -60,7 +57,6 @@ good_image s =
     && (leb (byte_at s 3) 5
     && (leb (byte_at s 6) 7 && ((eqb (byte_at s 7) 0 && eqb (byte_at s 15) 0) && refs_ok s 216 128)))
 
--- 8 where the bytes are no image, and beside it the state of a new MMU with the default configuration
-unfoldable pub state_read : List ℕ → StateRead
-state_read s =
-    cond (good_image s) (record { said = Granted; mmu = state_at s 0 }) (record { said = Refused BadLayout; mmu = state_new default_config })
+-- the state, or 8 where the bytes are no image
+unfoldable pub state_read : List ℕ → Result Mmu Refusal
+state_read s = cond (good_image s) (Ok (state_at s 0)) (Err BadLayout)

@@ -1,10 +1,11 @@
 -- Calls on a state that is held as its image: what each answers, and what it leaves in the image. Schemes and configurations are the bundle's
 -- bytes. 8 is given where bytes are no image, or have another length. One access is in Accesses.antt.
-use Rattle.std.specs.Prelude.{ℕ, Bool, true, cond, ◌&&◌, List, eqb, leb, length}
+use Rattle.std.specs.Prelude.{ℕ, Bool, true, cond, ◌&&◌, List, eqb, leb, length, ◌≡◌, Err, MatchResult, Ok, Result, ⊤}
+use Rattle.scheme.specs.declared.refusal.Refusal.{Refusal}
 use Rattle.scheme.specs.Refusals.{number_of, on_grant}
 use Rattle.scheme.specs.declared.refusal.Refusal.TheVariants.{BadLayout}
-use Rattle.scheme.specs.declared.refusal.Said.{Said}
-use Rattle.scheme.specs.declared.refusal.Said.TheVariants.{Granted, Refused}
+use Rattle.entry.specs.Geometry.{default_config}
+use Rattle.state.specs.State.{state_new}
 use Rattle.state.specs.declared.Mmu.{Mmu}
 use Rattle.mmu.specs.Calls.{refused_with, new_of, set_scheme_of, reconfigure_of, flush_of, flush_vaddr_of}
 use Rattle.mmu.specs.declared.Kept.{Kept}
@@ -14,27 +15,41 @@ use Rattle.image.specs.Image.{room_in, put_state}
 use Rattle.image_read.specs.Reading.{state_read}
 
 -- the refusal's number, or 0
-unfoldable pub said_number : Said → ℕ
-said_number Granted = 0
-said_number (Refused why) = number_of why
+abbrev pub said_number : Result ⊤ Refusal → ℕ
+said_number (Ok _) = 0
+said_number (Err why) = number_of why
 
 -- 8 unless a test holds, and then what comes next
-unfoldable pub laid_out : Bool → Said → Said
-laid_out good next = cond good next (Refused BadLayout)
+unfoldable pub laid_out : {A : Type 0} → Bool → Result A Refusal → Result A Refusal
+laid_out good next = cond good next (Err BadLayout)
+
+-- what comes of a state, and what is there without one
+abbrev pub on_state : {A : Type 0} → Result Mmu Refusal → (Mmu → A) → A → A
+on_state (Ok m) new old = new m
+on_state (Err why) new old = old
 
 -- the image after a call: the state that it leaves where it was granted, and else the bytes as they were
-unfoldable pub kept_in : Kept → List ℕ → List ℕ
+abbrev pub kept_in : Kept → List ℕ → List ℕ
 kept_in k image = on_grant k.said (put_state k.mmu image) image
 
 -- ---- a new state, a scheme, a configuration, a flush
 
--- a call on the image's state, if the image and the call's own bytes are laid out
-unfoldable pub called_on : Bool → List ℕ → (Mmu → Kept) → Kept
-called_on good image call =
-    on_grant
-    (laid_out good (state_read image).said)
-    (call (state_read image).mmu)
-    (refused_with BadLayout (state_read image).mmu)
+-- a call on a state, if the call's own bytes are laid out: a refusal hands the state back. Where there is none the default one stands there
+abbrev pub called_with : Bool → (Mmu → Kept) → Result Mmu Refusal → Kept
+called_with good call (Ok m) = cond good (call m) (refused_with BadLayout m)
+called_with good call (Err why) = refused_with why (state_new default_config)
+
+-- a call on the image's state
+abbrev pub called_on : Bool → List ℕ → (Mmu → Kept) → Kept
+called_on good image call = called_with good call (state_read image)
+
+-- what is answered and left in the image: by what the call gives of the image's state, and 8 where the bytes are no image
+abbrev pub CalledOn : (Mmu → Kept → Type 0) → List ℕ → ℕ → List ℕ → Type 0
+CalledOn Gives image r after =
+    MatchResult
+    (state_read image)
+    (λ m. (k : Kept) × Gives m k × (r ≡ said_number k.said) × (after ≡ kept_in k image))
+    (λ why. (r ≡ 8) × (after ≡ image))
 
 abbrev pub schemed_of : List ℕ → List ℕ → Kept
 schemed_of image scheme = called_on (eqb (length scheme) 6) image (λ m. set_scheme_of m (scheme_at scheme 0))

@@ -1,100 +1,57 @@
 // One access on a state that is held as its image, asked for with numbers, and what is told of it.
-ghost use Rattle.std.specs.Prelude.{◌≡◌, ◌≤◌, length};
-ghost use Rattle.writer.specs.Put.{Put};
-ghost use Rattle.access.specs.Translate.{cause_in};
+ghost use Rattle.std.specs.Prelude.{◌≡◌, ◌≤◌, ◌++◌, length};
+ghost use Rattle.writer.specs.Wrote.{HasRoom, Wrote};
+ghost use Rattle.entry_image.specs.EntryImage.{le_bytes};
 ghost use Rattle.mmu.specs.Calls.{translate_ram};
 ghost use Rattle.imaged.specs.Imaged.{said_number};
-ghost use Rattle.imaged.specs.Accesses.{access_given, access_by, told_bytes, outcome_place, outcome_stall, answer_told, outcome_said, served_said, served_image, served_told};
+ghost use Rattle.imaged.specs.Accesses.{access_given, access_by, told_bytes, served_said, served_image, served_told};
 ghost use Rattle.imaged.specs.Accesses.{translated_number, translated_image, translated_ram, translated_told};
 
-use access::{Answer, Outcome};
-use scheme::Said;
+use access::Denied;
+use bundle::Code;
+use scheme::{AccessType, PrivMode};
 use state::Mmu;
 use walk::Access;
+use writer::Out;
 
 // Whether kind and privilege are the bundle's numbers.
 pub fn access_given(kind: u8, mode: u8) -> bool
     ensures { result ≡ access_given kind mode }
 {
-    (kind <= 2) & ((mode <= 1) | (mode == 3))
+    kind <= 2 && (mode <= 1 || mode == 3)
 }
 
 pub fn access_by(vaddr: u64, kind: u8, mode: u8) -> Access
     ensures { result ≡ access_by vaddr kind mode }
 {
-    let k = bundle::access_from(kind);
-    let m = bundle::mode_from(mode);
     Access {
         vaddr,
-        kind: k,
-        mode: m,
+        kind: AccessType::from(Code(kind)),
+        mode: PrivMode::from(Code(mode)),
     }
 }
 
-// The cause, the address and the count of words at the start of a buffer that has room for them.
-pub fn put_told(told: &mut [u8], cause: u32, place: u64, words: u32) -> usize
-    requires { 16 ≤ length told.old }
-    ensures { Put 16 told.old told.new 0 result (told_bytes cause place words) }
+// The cause, the address and the count of words.
+pub fn put_told(told: &mut Out<'_>, cause: u32, place: u64, words: u32)
+    requires { HasRoom 16 told.old }
+    ensures { Wrote 16 told.old told.new (told_bytes cause place words) }
 {
-    let x = entry_image::put_le(told, 0, 4, cause as u64);
-    let y = entry_image::put_le(told, x, 8, place);
-    entry_image::put_le(told, y, 4, words as u64)
+    told.bytes(&cause.to_le_bytes());
+    told.bytes(&place.to_le_bytes());
+    told.bytes(&words.to_le_bytes());
 }
 
-fn cause_of(o: Outcome) -> u32
-    ensures { result ≡ cause_in o }
+// The same, and the stall.
+fn put_answer(told: &mut Out<'_>, cause: u32, place: u64, words: u32, stall: u8)
+    requires { HasRoom 20 told.old }
+    ensures { Wrote 20 told.old told.new (told_bytes cause place words ++ le_bytes 4 stall) }
 {
-    match o {
-        Outcome::Ok(_) => 0,
-        Outcome::Err(f) => f.cause,
-        Outcome::Refused(_) => 0,
-    }
-}
-
-fn place_of(o: Outcome) -> u64
-    ensures { result ≡ outcome_place o }
-{
-    match o {
-        Outcome::Ok(p) => p.paddr,
-        Outcome::Err(_) => 0,
-        Outcome::Refused(_) => 0,
-    }
-}
-
-fn stall_of(o: Outcome) -> u8
-    ensures { result ≡ outcome_stall o }
-{
-    match o {
-        Outcome::Ok(p) => p.stall,
-        Outcome::Err(_) => 0,
-        Outcome::Refused(_) => 0,
-    }
-}
-
-// What `translate` answered, and the stall.
-fn put_answer(told: &mut [u8], a: Answer) -> usize
-    requires { 20 ≤ length told.old }
-    ensures { Put 20 told.old told.new 0 result (answer_told a) }
-{
-    let o = a.outcome;
-    let cause = cause_of(o);
-    let place = place_of(o);
-    let stall = stall_of(o);
-    let x = put_told(told, cause, place, a.words);
-    entry_image::put_le(told, x, 4, stall as u64)
-}
-
-fn said_of(o: Outcome) -> Said
-    ensures { result ≡ outcome_said o }
-{
-    match o {
-        Outcome::Ok(_) => Said::Granted,
-        Outcome::Err(_) => Said::Granted,
-        Outcome::Refused(why) => Said::Refused(why),
-    }
+    put_told(told, cause, place, words);
+    told.bytes(&u32::from(stall).to_le_bytes());
 }
 
 // One access on a state: unless it is refused, the answer is told and the state's image stored.
+#[tactic(auto, unfolding(scheme::specs::Refusals::on_grant, crate::specs::Accesses::served_said, crate::specs::Accesses::served_image, crate::specs::Accesses::served_told, crate::specs::Accesses::answer_told))]
 fn serve_on(m: Mmu, q: Access, image: &mut [u8], ram: &mut [u8], told: &mut [u8]) -> u32
     requires { 20 ≤ length told.old }
     ensures { (result ≡ said_number (served_said m q ram.old))
@@ -103,20 +60,19 @@ fn serve_on(m: Mmu, q: Access, image: &mut [u8], ram: &mut [u8], told: &mut [u8]
         × (told.new ≡ served_told m q ram.old told.old) }
 {
     let s = mmu::translate(m, q, ram);
-    let a = s.said;
-    let o = a.outcome;
-    let said = said_of(o);
-    match said {
-        Said::Refused(why) => why.number(),
-        Said::Granted => {
-            put_answer(told, a);
-            image::put_state(s.mmu, image);
-            0
-        }
+    let words = s.said.words;
+    let mut answer = Out::new(told);
+    match s.said.outcome {
+        Err(Denied::Refused(why)) => return why.number(),
+        Err(Denied::Fault(f)) => put_answer(&mut answer, f.cause, 0, words, 0),
+        Ok(p) => put_answer(&mut answer, 0, p.paddr, words, p.stall),
     }
+    image::put_state(s.mmu, image);
+    0
 }
 
 // `mmu::translate` on an image: `told` gets the cause, the address, the count of words and the stall.
+#[tactic(auto, unfolding(crate::specs::Imaged::laid_out, crate::specs::Accesses::translated_number, crate::specs::Accesses::translated_image, crate::specs::Accesses::translated_ram, crate::specs::Accesses::translated_told))]
 pub fn translate(
     image: &mut [u8],
     vaddr: u64,
@@ -136,10 +92,8 @@ pub fn translate(
     if !access_given(kind, mode) {
         return 8;
     }
-    let got = image_read::state_in(image);
-    let said = got.said;
-    match said {
-        Said::Refused(why) => 8,
-        Said::Granted => serve_on(got.mmu, access_by(vaddr, kind, mode), image, ram, told),
+    match image_read::state_in(image) {
+        Ok(m) => serve_on(m, access_by(vaddr, kind, mode), image, ram, told),
+        Err(_) => 8,
     }
 }

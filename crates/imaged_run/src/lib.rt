@@ -1,22 +1,21 @@
 // Lists of records on a state that is held as its image: for the state and the RAM alone, or with their lines.
 #![tactic(auto)]
 
-ghost use Rattle.std.specs.Prelude.{◌≡◌, cond, ◌+◌, ◌*◌, ◌≤◌, ◌/◌, ltb, length};
+ghost use Rattle.std.specs.Prelude.{◌≡◌, cond, ◌+◌, ◌*◌, ◌≤◌, ◌/◌, ltb, length, Err, Ok};
 ghost use Rattle.session.specs.Session.{end_mmu, end_ram};
 ghost use Rattle.text.specs.Lines.{refused_line};
 ghost use Rattle.steps.specs.Steps.{text_from};
 ghost use Rattle.run.specs.Run.{ran_buffer};
-ghost use Rattle.run.specs.declared.Ran.TheVariants.{Wrote, TooShort};
 ghost use Rattle.image.specs.Image.{put_state};
-ghost use Rattle.image_read.specs.Reading.{state_read};
 ghost use Rattle.imaged.specs.Imaged.{said_number};
-ghost use Rattle.imaged_run.specs.Records.{records_given, fit_said, opened_said, events_of, records_text, records_ram, records_image, records_short, records_ran};
+ghost use Rattle.imaged_run.specs.Records.{records_given, fit_said, opened_of, opened_said, events_of, records_text, records_ram, records_image, records_short, records_ran};
 
-use mmu::Kept;
-use run::Ran;
-use scheme::{Refusal, Said};
+use run::TooShort;
+use scheme::Refusal;
 use state::Mmu;
+use writer::Out;
 
+#[tactic(auto, unfolding(crate::specs::Records::records_given))]
 fn records_given(records: &[u8]) -> bool
     ensures { result ≡ records_given records.now }
 {
@@ -28,30 +27,30 @@ fn records_given(records: &[u8]) -> bool
     whole & layout::records_ok(records, 0, len / 8)
 }
 
-fn fit_said(m: Mmu) -> Said
+#[tactic(auto, unfolding(crate::specs::Records::fit_said))]
+fn fit_said(m: Mmu) -> Result<(), Refusal>
     ensures { result ≡ fit_said m }
 {
     if !state::fits(m) {
-        return Said::Refused(Refusal::Unfit);
+        return Err(Refusal::Unfit);
     }
-    let s = m.scheme;
-    if !s.is_bought() {
-        return Said::Refused(Refusal::BadScheme);
+    if !m.scheme.is_bought() {
+        return Err(Refusal::BadScheme);
     }
-    Said::Granted
+    Ok(())
 }
 
-// The image's state, and what a list of records on it is refused with.
-pub fn opened(image: &[u8], records: &[u8]) -> Kept
-    ensures { (result.said ≡ opened_said image.now records.now) × (result.mmu ≡ (state_read image.now).mmu) }
+// The image's state, or what a list of records on it is refused with.
+#[tactic(auto, unfolding(crate::specs::Records::opened_of, imaged::specs::Imaged::laid_out))]
+pub fn opened(image: &[u8], records: &[u8]) -> Result<Mmu, Refusal>
+    ensures { result ≡ opened_of image.now records.now }
 {
-    let got = image_read::state_in(image);
-    let held = got.said;
-    let m = got.mmu;
-    let first = imaged::laid_out(records_given(records), held);
-    let second = fit_said(m);
-    let said = run::first_of(first, second);
-    Kept { said, mmu: m }
+    if !records_given(records) {
+        return Err(Refusal::BadLayout);
+    }
+    let m = image_read::state_in(image)?;
+    fit_said(m)?;
+    Ok(m)
 }
 
 // A list of accesses and flushes on an image, for the state and the RAM alone.
@@ -60,35 +59,39 @@ pub fn run_events(image: &mut [u8], records: &[u8], ram: &mut [u8]) -> u32
         × (image.new ≡ records_image image.old records.now ram.old)
         × (ram.new ≡ records_ram image.old records.now ram.old) }
 {
-    let k = opened(image, records);
-    let said = k.said;
-    match said {
-        Said::Refused(why) => why.number(),
-        Said::Granted => {
-            let m = k.mmu;
+    match opened(image, records) {
+        Ok(m) => {
             let end = fold::run_events(records, records.len() / 8, m, ram);
             image::put_state(end, image);
             0
         }
+        Err(why) => why.number(),
     }
 }
 
 // A refusal's line at the start of a buffer that has room for it.
-fn put_refusal(out: &mut [u8], why: Refusal) -> Ran
-    ensures { (result ≡ cond (ltb (length out.old) 11) TooShort (Wrote (length (refused_line why))))
+fn put_refusal(out: &mut [u8], why: Refusal) -> Result<usize, TooShort>
+    ensures { (result ≡ cond (ltb (length out.old) 11) (Err (record {})) (Ok (length (refused_line why))))
         × (out.new ≡ ran_buffer (ltb (length out.old) 11) out.old (refused_line why)) }
 {
     if out.len() < 11 {
-        return Ran::TooShort;
+        return Err(TooShort);
     }
-    let at = text::put_refused(out, 0, why);
-    Ran::Wrote(at)
+    let mut line = Out::new(out);
+    text::put_refused(&mut line, why);
+    Ok(line.at())
 }
 
 // The records of a list that is not refused, their lines and the tallies.
-fn run_granted(image: &mut [u8], records: &[u8], m: Mmu, ram: &mut [u8], out: &mut [u8]) -> Ran
+fn run_granted(
+    image: &mut [u8],
+    records: &[u8],
+    m: Mmu,
+    ram: &mut [u8],
+    out: &mut [u8],
+) -> Result<usize, TooShort>
     requires { length records.now ≤ 24000 }
-    ensures { (result ≡ cond (ltb (length out.old) (25 * (length records.now / 8) + 113)) TooShort (Wrote (length (text_from (events_of records.now) m ram.old))))
+    ensures { (result ≡ cond (ltb (length out.old) (25 * (length records.now / 8) + 113)) (Err (record {})) (Ok (length (text_from (events_of records.now) m ram.old))))
         × (out.new ≡ ran_buffer (ltb (length out.old) (25 * (length records.now / 8) + 113)) out.old (text_from (events_of records.now) m ram.old))
         × (ram.new ≡ cond (ltb (length out.old) (25 * (length records.now / 8) + 113)) ram.old (end_ram (events_of records.now) m ram.old))
         × (image.new ≡ cond (ltb (length out.old) (25 * (length records.now / 8) + 113)) image.old (put_state (end_mmu (events_of records.now) m ram.old) image.old)) }
@@ -96,29 +99,29 @@ fn run_granted(image: &mut [u8], records: &[u8], m: Mmu, ram: &mut [u8], out: &m
     let count = records.len() / 8;
     let need = 25 * count + 113;
     if out.len() < need {
-        return Ran::TooShort;
+        return Err(TooShort);
     }
-    let done = steps::run_all(records, 0, count, m, ram, out);
-    let end = done.mmu;
-    let at = done.at;
+    let mut lines = Out::new(out);
+    let end = steps::run_all(records, 0, count, m, ram, &mut lines);
     image::put_state(end, image);
-    Ran::Wrote(at)
+    Ok(lines.at())
 }
 
 // A list of accesses and flushes on an image: their lines are put at the start of `out`.
-pub fn run_records(image: &mut [u8], records: &[u8], ram: &mut [u8], out: &mut [u8]) -> Ran
+#[tactic(auto, using(crate::proofs::Laws::opened_short), unfolding(bundle_run::specs::Parts::room_of))]
+pub fn run_records(
+    image: &mut [u8],
+    records: &[u8],
+    ram: &mut [u8],
+    out: &mut [u8],
+) -> Result<usize, TooShort>
     ensures { (result ≡ records_ran image.old records.now ram.old (length out.old))
         × (out.new ≡ ran_buffer (records_short image.old records.now (length out.old)) out.old (records_text image.old records.now ram.old))
         × (ram.new ≡ cond (records_short image.old records.now (length out.old)) ram.old (records_ram image.old records.now ram.old))
         × (image.new ≡ cond (records_short image.old records.now (length out.old)) image.old (records_image image.old records.now ram.old)) }
 {
-    let k = opened(image, records);
-    let said = k.said;
-    match said {
-        Said::Refused(why) => put_refusal(out, why),
-        Said::Granted => {
-            let m = k.mmu;
-            run_granted(image, records, m, ram, out)
-        }
+    match opened(image, records) {
+        Ok(m) => run_granted(image, records, m, ram, out),
+        Err(why) => put_refusal(out, why),
     }
 }

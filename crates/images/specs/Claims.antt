@@ -1,7 +1,6 @@
 -- What holds of images: a state is read back from its own, and a string is an image exactly where it is good. The proofs are in
 -- proofs/Claims.antt.
-use Rattle.std.specs.Prelude.{ℕ, ◌^◌, ◌<◌, ◌≡◌, true, List, length, get_or}
-use Rattle.scheme.specs.declared.refusal.Said.TheVariants.{Granted}
+use Rattle.std.specs.Prelude.{ℕ, ◌^◌, ◌<◌, ◌≡◌, true, List, length, get_or, Ok}
 use Rattle.entry.specs.declared.TlbEntry.{TlbEntry}
 use Rattle.slots.specs.Slots.{entry_at}
 use Rattle.tlb.specs.declared.Tlb.{Tlb}
@@ -52,7 +51,7 @@ abbrev pub ImageIsGood : Type 0
 ImageIsGood = (m : Mmu) → Held m → good_image (image_of m) ≡ true
 
 abbrev pub ImageIsRead : Type 0
-ImageIsRead = (m : Mmu) → Held m → state_read (image_of m) ≡ record { said = Granted; mmu = m }
+ImageIsRead = (m : Mmu) → Held m → state_read (image_of m) ≡ Ok m
 
 -- good bytes are the image of the state that is read from them
 abbrev pub GoodIsImage : Type 0

@@ -1,20 +1,19 @@
 -- The installer's refusals, in their order, and the top table in its own part of RAM.
-use Prim.Native.Nat.{ℕ, ◌+◌, ◌-◌, ◌%◌, ◌^◌, ◌≤◌, ◌<◌}
+use Rattle.std.specs.Prelude.{Err, Ok, Result, ⊤}
+use Prim.Native.Nat.{ℕ, ◌+◌, ◌-◌, ◌^◌, ◌≤◌, ◌<◌}
 use native.Mathlib.Omega.{arith}
-use mathlib.Core.Path.{◌≡◌, refl, sym, ap, ◌∙◌}
-use mathlib.Core.Bool.{Bool, true, false, not, ◌||◌, true≢false}
+use mathlib.Core.Path.{◌≡◌, refl, ap, ◌∙◌}
+use mathlib.Core.Bool.{Bool, true, false, ◌||◌, true≢false}
 use mathlib.Core.List.{List, ◌++◌}
 use lib.Dec.{ltb}
 use lib.ListN.{length, take, drop, length-drop}
 use lib.Seq.{length-take-le}
-use borrow.Author.Tests.{eq-eqb, ne_eqb, eqb-true, lt-ltb, le-ltb, ltb-false, not-false}
+use borrow.Author.Tests.{eqb-true, ltb-false, not-false}
 use Rattle.pte.specs.declared.PtePerms.{PtePerms}
 use Rattle.scheme.specs.Refusals.{number_of, on_grant}
-use Rattle.scheme.specs.Scheme.{bought_of}
 use Rattle.scheme.specs.declared.PagingScheme.{PagingScheme}
 use Rattle.scheme.specs.declared.refusal.Refusal.{Refusal}
 use Rattle.scheme.specs.declared.refusal.Refusal.TheVariants.{BadScheme, RootUnaligned, TopTableOutside, BadFlags, NoRoom}
-use Rattle.scheme.specs.declared.refusal.Said.{Said}
 use Rattle.plan.specs.declared.PageMapSpec.{PageMapSpec}
 use Rattle.plan.specs.declared.Plan.{Plan}
 use Rattle.plan.specs.declared.Window.{Window}
@@ -24,7 +23,7 @@ use Rattle.plan.specs.Levels.{room_at, table_at, Fit, Good, At}
 use Rattle.plan.proofs.Laws.{is_valid, span_bound}
 use Rattle.plan.proofs.Rows.{table_in}
 use Rattle.plan.proofs.Lent.{lent}
-use Rattle.installer.specs.Install.{top_end, barred, refuse_if, refusal_of, NoneBefore7, install_ram}
+use Rattle.installer.specs.Install.{top_end, refuse_if, refusal_of, NoneBefore7, install_ram}
 use Rattle.installer.specs.Stretch.{table_pa, Room, Layable}
 
 -- ---- the plan of a fit scheme
@@ -44,40 +43,9 @@ plan_good s m win f = record { fit = f; flags6 = flags_small m.perms m.global }
 pub at_root : (p : Plan) → Good p → At p 0 0
 at_root p g = record { good = g; inside = (is_valid _ g.fit).some; range = omega (arith, span_bound p.scheme g.fit 0) }
 
--- ---- the refusals, by what the code has in its place of each test's term
-
-module _ (s : PagingScheme) (m : PageMapSpec) (win : Window) (root len : ℕ) (v : Bool) (is-v : v ≡ bought_of s) where
-  pub refuses_1 : not v ≡ true → Said.Refused BadScheme ≡ refusal_of s m win root len
-  unfolding refusal_of refuse_if
-  refuses_1 e = rw (sym is-v, e)
-
-  module _ (ok : not v ≡ false) where
-    pub refuses_4 : (root % 4096 ≡ 0 → ⊥) → Said.Refused RootUnaligned ≡ refusal_of s m win root len
-    unfolding refusal_of refuse_if
-    refuses_4 e = rw (sym is-v, ok, ne_eqb _ _ e)
-
-    module _ (aligned : root % 4096 ≡ 0) (stop : ℕ) (is_stop : stop ≡ top_end s root) where
-      pub refuses_5 : ltb len stop || ltb (2 ^ 32) stop ≡ true → Said.Refused TopTableOutside ≡ refusal_of s m win root len
-      unfolding refusal_of refuse_if
-      refuses_5 e = rw (sym is-v, ok, eq-eqb _ _ aligned, sym is_stop, e)
-
-      module _ (inside : ltb len stop || ltb (2 ^ 32) stop ≡ false) (b : Bool) (is_b : b ≡ barred m.perms) where
-        pub refuses_6 : b ≡ true → Said.Refused BadFlags ≡ refusal_of s m win root len
-        unfolding refusal_of refuse_if
-        refuses_6 e = rw (sym is-v, ok, eq-eqb _ _ aligned, sym is_stop, inside, sym is_b, e)
-
-        module _ (lets : b ≡ false) (need : ℕ) (is-need : need ≡ room_at (plan_of s m win) 0 0) where
-          pub refuses_7 : root < need → Said.Refused NoRoom ≡ refusal_of s m win root len
-          unfolding refusal_of refuse_if
-          refuses_7 h = rw (sym is-v, ok, eq-eqb _ _ aligned, sym is_stop, inside, sym is_b, lets, sym is-need, lt-ltb _ _ h)
-
-          pub refuses_none : need ≤ root → Said.Granted ≡ refusal_of s m win root len
-          unfolding refusal_of refuse_if
-          refuses_none h = rw (sym is-v, ok, eq-eqb _ _ aligned, sym is_stop, inside, sym is_b, lets, sym is-need, le-ltb _ _ h)
-
 -- ---- what holds where no refusal, or 7 alone, is given
 
-went_by : (b : Bool) (why : Refusal) (next said : Said) → (Said.Refused why ≡ said → ⊥) → refuse_if b why next ≡ said → (b ≡ false) × (next ≡ said)
+went_by : (b : Bool) (why : Refusal) (next said : Result ⊤ Refusal) → (Err why ≡ said → ⊥) → refuse_if b why next ≡ said → (b ≡ false) × (next ≡ said)
 unfolding refuse_if
 went_by false why next said other e = (refl, e)
 went_by true why next said other e = absurd (other e)
@@ -88,8 +56,8 @@ neither true b e = absurd (true≢false e)
 
 module _ (s : PagingScheme) (m : PageMapSpec) (win : Window) (root len : ℕ) where
   -- the tests before 7 said no, and 7's gave the answer
-  pub before_7 : (said : Said) → ((why : Refusal) → (number_of why ≡ 7 → ⊥) → Said.Refused why ≡ said → ⊥) → refusal_of s m win root len ≡ said
-      → NoneBefore7 s m root len × (refuse_if (ltb root (room_at (plan_of s m win) 0 0)) NoRoom Said.Granted ≡ said)
+  pub before_7 : (said : Result ⊤ Refusal) → ((why : Refusal) → (number_of why ≡ 7 → ⊥) → Err why ≡ said → ⊥) → refusal_of s m win root len ≡ said
+      → NoneBefore7 s m root len × (refuse_if (ltb root (room_at (plan_of s m win) 0 0)) NoRoom (Ok tt) ≡ said)
   unfolding refusal_of
   before_7 said other e =
       let t1 = went_by _ _ _ said (other BadScheme (λ z. omega arith)) e in
@@ -107,27 +75,27 @@ module _ (s : PagingScheme) (m : PageMapSpec) (win : Window) (root len : ℕ) wh
         t6.1,
       )
 
-  no_refusal : (why : Refusal) → Said.Refused why ≡ Said.Granted → ⊥
+  no_refusal : (why : Refusal) → ◌≡◌ {A = Result ⊤ Refusal} (Err why) (Ok tt) → ⊥
   no_refusal why e = let z : ◌≡◌ {A = ℕ} 0 1 = cc in omega arith
 
-  pub granted : refusal_of s m win root len ≡ Said.Granted → NoneBefore7 s m root len × (room_at (plan_of s m win) 0 0 ≤ root)
+  pub granted : refusal_of s m win root len ≡ Ok tt → NoneBefore7 s m root len × (room_at (plan_of s m win) 0 0 ≤ root)
   granted e =
-      let t = before_7 Said.Granted (λ why n. no_refusal why) e in
-      (t.0, ltb-false _ _ (went_by _ NoRoom Said.Granted Said.Granted (no_refusal NoRoom) t.1).0)
+      let t = before_7 (Ok tt) (λ why n. no_refusal why) e in
+      (t.0, ltb-false _ _ (went_by _ NoRoom (Ok tt) (Ok tt) (no_refusal NoRoom) t.1).0)
 
 module _ (s : PagingScheme) (m : PageMapSpec) (win : Window) (root : ℕ) (ram : List ℕ) where
   -- so the filling may start
-  pub may_lay : Fit s → refusal_of s m win root (length ram) ≡ Said.Granted → Layable (plan_of s m win) root (length ram)
+  pub may_lay : Fit s → refusal_of s m win root (length ram) ≡ Ok tt → Layable (plan_of s m win) root (length ram)
   unfolding plan_of
   may_lay f e =
       let t = granted s m win root (length ram) e in
       record { good = plan_good s m win f; fits = t.0.fits; top = t.0.top; space = t.1 }
 
-  pub laid : refusal_of s m win root (length ram) ≡ Said.Granted → install_ram s m win root ram ≡ written 0 (all_writes (plan_of s m win) root) ram
+  pub laid : refusal_of s m win root (length ram) ≡ Ok tt → install_ram s m win root ram ≡ written 0 (all_writes (plan_of s m win) root) ram
   unfolding install_ram on_grant
   laid e = rw e
 
-  pub not_laid : (why : Refusal) → refusal_of s m win root (length ram) ≡ Said.Refused why → install_ram s m win root ram ≡ ram
+  pub not_laid : (why : Refusal) → refusal_of s m win root (length ram) ≡ Err why → install_ram s m win root ram ≡ ram
   unfolding install_ram on_grant
   not_laid why e = rw e
 

@@ -11,7 +11,7 @@ ghost use Rattle.installer.specs.Stretch.{table_pa, Room, Stretch, Layable};
 
 use plan::{PageMapSpec, Plan, Window};
 use pte::PtePerms;
-use scheme::{PagingScheme, Refusal, Said};
+use scheme::{PagingScheme, Refusal};
 
 // Writes a word that lies in the stretch.
 fn put_word(ram: &mut [u8], at: u32, word: u32)
@@ -41,10 +41,8 @@ fn fill_table(ram: &mut [u8], low: usize, p: Plan, level: u8, parent: usize) -> 
     let s = p.scheme;
     let n = plan::entries_at(s, level);
     let mut next_free = low + ram.len() - plan::table_bytes(s, level);
-    let mut idx = 0;
-    while idx < n {
+    for idx in 0..n {
         next_free = fill_entry(ram, low, p, level, parent, idx, next_free);
-        idx += 1;
     }
     next_free
 }
@@ -70,11 +68,8 @@ fn fill_entry(
     if plan::opens_child(p, level, base) {
         let below = level + 1;
         let c = plan::alloc_table(p, below, base, low, next_free);
-        let pa = c.pa;
-        let start = c.start;
-        let stop = c.stop;
-        put_word(ram, at, plan::pointer_word(pa));
-        fill_table(&mut ram[start..stop], low + start, p, below, base)
+        put_word(ram, at, plan::pointer_word(c.pa));
+        fill_table(&mut ram[c.start..c.stop], low + c.start, p, below, base)
     } else {
         put_word(ram, at, plan::leaf_word(p, level, base));
         next_free
@@ -82,6 +77,7 @@ fn fill_entry(
 }
 
 // Whether the map has none of R, W, X, or W without R.
+#[tactic(auto, unfolding(crate::specs::Install::barred))]
 fn is_barred(p: PtePerms) -> bool
     ensures { result ≡ barred p }
 {
@@ -89,35 +85,36 @@ fn is_barred(p: PtePerms) -> bool
 }
 
 // The first refusal that holds, in document 01's order. `len` is the RAM's length.
+#[tactic(auto, unfolding(crate::specs::Install::refusal_of, crate::specs::Install::refuse_if))]
 fn first_refusal(
     len: usize,
     root_pa: u32,
     scheme: PagingScheme,
     spec: PageMapSpec,
     window: Window,
-) -> Said
+) -> Result<(), Refusal>
     ensures { result ≡ refusal_of scheme spec window root_pa len }
 {
     if !scheme.is_bought() {
-        return Said::Refused(Refusal::BadScheme);
+        return Err(Refusal::BadScheme);
     }
     if root_pa % 4096 != 0 {
-        return Said::Refused(Refusal::RootUnaligned);
+        return Err(Refusal::RootUnaligned);
     }
     let root = root_pa as usize;
     let stop = root + plan::table_bytes(scheme, 0);
     if (len < stop) | (0x1_0000_0000 < stop) {
-        return Said::Refused(Refusal::TopTableOutside);
+        return Err(Refusal::TopTableOutside);
     }
     let perms = spec.perms;
     if is_barred(perms) {
-        return Said::Refused(Refusal::BadFlags);
+        return Err(Refusal::BadFlags);
     }
     let p = plan::plan_of(scheme, spec, window);
     if root < plan::room_below(p, 0, 0) {
-        return Said::Refused(Refusal::NoRoom);
+        return Err(Refusal::NoRoom);
     }
-    Said::Granted
+    Ok(())
 }
 
 // Fills the tables of a map that is not refused. All of them lie in the part of RAM that ends with the top table.
@@ -137,16 +134,11 @@ pub fn install_map_scheme(
     scheme: PagingScheme,
     spec: PageMapSpec,
     window: Window,
-) -> Said
+) -> Result<(), Refusal>
     ensures { (result ≡ install_said scheme spec window root_pa ram.old)
         × (ram.new ≡ install_ram scheme spec window root_pa ram.old) }
 {
-    let said = first_refusal(ram.len(), root_pa, scheme, spec, window);
-    match said {
-        Said::Refused(why) => Said::Refused(why),
-        Said::Granted => {
-            lay_map(ram, root_pa, plan::plan_of(scheme, spec, window));
-            Said::Granted
-        }
-    }
+    first_refusal(ram.len(), root_pa, scheme, spec, window)?;
+    lay_map(ram, root_pa, plan::plan_of(scheme, spec, window));
+    Ok(())
 }

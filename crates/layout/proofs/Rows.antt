@@ -1,24 +1,22 @@
--- The rows of the contents that are passed, and those that are left.
-use Prim.Native.Nat.{ℕ, suc, ◌+◌, ◌-◌, ◌<◌, ◌≤◌}
-use native.Mathlib.Omega.{arith}
-use mathlib.Core.Path.{◌≡◌, refl}
-use mathlib.Core.Bool.{Bool, true, false, ◌&&◌}
-use mathlib.Core.List.{List}
-use lib.Dec.{eqb}
-use lib.ListN.{length}
+-- The rows of the contents that are left, after one more.
+use Rattle.std.proofs.Common.{◌≡◌, false, true, ℕ, suc, ◌+◌, ◌-◌, ◌<◌, ◌≤◌, List, length, eqb, arith}
 use Rattle.layout.specs.Layout.{row_ok, rows_ok, len_at}
 
 module _ (s : List ℕ) (k start : ℕ) where
-  pub next_row : (ok : Bool) → k < 4
-      → (ok && row_ok s k start) && rows_ok s (4 - (k + 1)) (k + 1) (start + len_at s k) ≡ ok && rows_ok s (4 - k) k start
+  pub bad_row : k < 4 → row_ok s k start ≡ false → rows_ok s (4 - k) k start ≡ false
   unfolding rows_ok
-  next_row false h = refl
-  next_row true h =
-      let e : 4 - k ≡ suc (4 - (k + 1)) = omega arith in
-      rw e
+  bad_row h e =
+      let n : 4 - k ≡ suc (4 - (k + 1)) = omega arith in
+      rw (n, e)
 
-  pub last_row : (ok : Bool) → 4 ≤ k → ok && eqb start (length s) ≡ ok && rows_ok s (4 - k) k start
+  pub next_row : k < 4 → row_ok s k start ≡ true → rows_ok s (4 - k) k start ≡ rows_ok s (4 - (k + 1)) (k + 1) (start + len_at s k)
   unfolding rows_ok
-  last_row ok h =
-      let e : 4 - k ≡ 0 = omega arith in
-      rw e
+  next_row h e =
+      let n : 4 - k ≡ suc (4 - (k + 1)) = omega arith in
+      rw (n, e)
+
+  pub last_row : 4 ≤ k → rows_ok s (4 - k) k start ≡ eqb start (length s)
+  unfolding rows_ok
+  last_row h =
+      let n : 4 - k ≡ 0 = omega arith in
+      rw n

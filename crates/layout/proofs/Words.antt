@@ -1,16 +1,34 @@
--- Numbers of two and of four bytes.
-use Prim.Native.Nat.{ℕ, ◌+◌, ◌*◌}
-use native.Mathlib.Nat.{add_assoc}
-use native.Mathlib.Omega.{arith}
-use mathlib.Core.Path.{◌≡◌}
-use mathlib.Core.List.{List}
-use lib.ListN.{get_or}
+-- Numbers of two, four and eight bytes, as std's `from_le_bytes` reads them.
+use Rattle.std.proofs.Common.{◌≡◌, ℕ, ◌+◌, ◌<◌, List, get_or, add-zero, add_assoc, arith}
+use Rattle.std.proofs.Math.Seq.{slice}
+use Rattle.std.proofs.lemmas.List.{get_or-take, get_or-drop}
+use Rattle.std.specs.Int.{w16, w32, w64, from_le_bytes}
 use Rattle.memory.specs.Word.{le_at}
 
-pub two : (s : List ℕ) (a : ℕ) → le_at 2 s a ≡ get_or s a 0 + 256 * get_or s (a + 1) 0
-unfolding le_at
-two s a = omega arith
+module _ (s : List ℕ) (at : ℕ) where
+  byte : (n k : ℕ) → k < n → get_or (slice at (at + n) s) k 0 ≡ get_or s (at + k) 0
+  byte n k h = grind (arith, get_or-drop, get_or-take)
 
-pub halves : (s : List ℕ) (a : ℕ) → le_at 4 s a ≡ le_at 2 s a + 65536 * le_at 2 s (a + 2)
-unfolding le_at
-halves s a = simp add_assoc (omega arith)
+  pub two : from_le_bytes w16 (slice at (at + 2) s) ≡ le_at 2 s at
+  unfolding le_at
+  two = rw (byte 2 0 (omega arith), byte 2 1 (omega arith), add-zero at) (omega arith)
+
+  pub four : from_le_bytes w32 (slice at (at + 4) s) ≡ le_at 4 s at
+  unfolding le_at
+  four = rw (byte 4 0 (omega arith), byte 4 1 (omega arith), byte 4 2 (omega arith), byte 4 3 (omega arith), add-zero at) (simp add_assoc (omega arith))
+
+  pub eight : from_le_bytes w64 (slice at (at + 8) s) ≡ le_at 8 s at
+  unfolding le_at
+  eight =
+      rw (
+        byte 8 0 (omega arith),
+        byte 8 1 (omega arith),
+        byte 8 2 (omega arith),
+        byte 8 3 (omega arith),
+        byte 8 4 (omega arith),
+        byte 8 5 (omega arith),
+        byte 8 6 (omega arith),
+        byte 8 7 (omega arith),
+        add-zero at,
+      )
+      (simp add_assoc (omega arith))

@@ -1,30 +1,41 @@
 // The layout of a trace bundle: whether a file is one, tested over all its bytes. Little-endian numbers in a file.
 #![tactic(auto)]
 
-ghost use Rattle.std.specs.Prelude.{◌≡◌, ◌||◌, ◌+◌, ◌*◌, ◌≤◌, ◌<◌, eqb, length};
+ghost use Rattle.std.specs.Prelude.{◌≡◌, true, ◌||◌, ◌+◌, ◌*◌, ◌≤◌, ◌<◌, eqb, length};
+ghost use Rattle.std.proofs.Math.Seq.{slice};
 ghost use Rattle.memory.specs.Word.{le_at};
 ghost use Rattle.layout.specs.Layout.{front_ok, row_ok, len_at, rows_ok, sizes_ok, head_ok};
-ghost use Rattle.layout.specs.Layout.{unused_ok, settings_ok, flag_bits_ok, map_ok, record_ok, records_ok, good_of};
+ghost use Rattle.layout.specs.Layout.{unused_ok, settings_ok, flag_bits_ok, map_ok, record_ok, records_ok, bodies_ok, good_of};
 
-// A byte as a 32-bit number.
-fn wide(b: u8) -> u32
-    ensures { (result ≡ b) × (result < 256) }
+// The N bytes from `at` on.
+pub fn bytes_at<const N: usize>(file: &[u8], at: usize) -> [u8; N]
+    requires { at + N ≤ length file.now }
+    ensures { result ≡ slice at (at + N) file.now }
 {
-    b as u32
+    let mut bytes = [0; N];
+    bytes.copy_from_slice(&file[at..at + N]);
+    bytes
 }
 
-pub fn u16_at(file: &[u8], at: usize) -> u32
+pub fn u16_at(file: &[u8], at: usize) -> u16
     requires { at + 2 ≤ length file.now }
-    ensures { (result ≡ le_at 2 file.now at) × (result < 65536) }
+    ensures { result ≡ le_at 2 file.now at }
 {
-    wide(file[at]) + 256 * wide(file[at + 1])
+    u16::from_le_bytes(bytes_at(file, at))
 }
 
 pub fn u32_at(file: &[u8], at: usize) -> u32
     requires { at + 4 ≤ length file.now }
     ensures { result ≡ le_at 4 file.now at }
 {
-    u16_at(file, at) + 65536 * u16_at(file, at + 2)
+    u32::from_le_bytes(bytes_at(file, at))
+}
+
+pub fn u64_at(file: &[u8], at: usize) -> u64
+    requires { at + 8 ≤ length file.now }
+    ensures { result ≡ le_at 8 file.now at }
+{
+    u64::from_le_bytes(bytes_at(file, at))
 }
 
 // The length of body k, from 0.
@@ -39,7 +50,7 @@ fn front_ok(file: &[u8]) -> bool
     requires { 4 ≤ length file.now }
     ensures { result ≡ front_ok 1 4 file.now }
 {
-    (u16_at(file, 0) == 1) & (u16_at(file, 2) == 4)
+    u16_at(file, 0) == 1 && u16_at(file, 2) == 4
 }
 
 fn row_ok(file: &[u8], k: usize, start: usize) -> bool
@@ -48,7 +59,7 @@ fn row_ok(file: &[u8], k: usize, start: usize) -> bool
 {
     let kind = u32_at(file, 4 + 12 * k) as usize;
     let begins = u32_at(file, 8 + 12 * k) as usize;
-    (kind == k + 1) & (begins == start)
+    kind == k + 1 && begins == start
 }
 
 // The kinds in order, and the bodies from 52 to the end of the file.
@@ -56,17 +67,17 @@ fn rows_ok(file: &[u8]) -> bool
     requires { 52 ≤ length file.now }
     ensures { result ≡ rows_ok file.now 4 0 52 }
 {
-    let mut ok = true;
     let mut start = 52;
-    let mut k = 0;
-    while k < 4 {
-        ok = ok & row_ok(file, k, start);
+    for k in 0..4 {
+        if !row_ok(file, k, start) {
+            return false;
+        }
         start += len_at(file, k);
-        k += 1;
     }
-    ok & (start == file.len())
+    start == file.len()
 }
 
+#[tactic(auto, unfolding(crate::specs::Layout::sizes_ok))]
 fn sizes_ok(file: &[u8]) -> bool
     requires { 52 ≤ length file.now }
     ensures { result ≡ sizes_ok 8 file.now }
@@ -75,18 +86,18 @@ fn sizes_ok(file: &[u8]) -> bool
     let map = len_at(file, 1);
     let ram = len_at(file, 2);
     let accesses = len_at(file, 3);
-    (settings == 20)
-        & (((map == 0) | (map == 20))
-            & ((ram <= 32768) & ((accesses <= 24000) & (accesses % 8 == 0))))
+    settings == 20
+        && (map == 0 || map == 20)
+        && ram <= 32768
+        && accesses <= 24000
+        && accesses % 8 == 0
 }
 
+#[tactic(auto, unfolding(crate::specs::Layout::head_ok))]
 fn head_ok(file: &[u8]) -> bool
     ensures { result ≡ head_ok 1 4 8 file.now }
 {
-    if file.len() < 52 {
-        return false;
-    }
-    front_ok(file) & (rows_ok(file) & sizes_ok(file))
+    file.len() >= 52 && front_ok(file) && rows_ok(file) && sizes_ok(file)
 }
 
 // Whether each of the four widths at a place is used or 0.
@@ -94,39 +105,43 @@ fn unused_ok(file: &[u8], at: usize, count: u8) -> bool
     requires { at + 4 ≤ length file.now }
     ensures { result ≡ unused_ok file.now at count }
 {
-    let first = (0 < count) | (file[at] == 0);
-    let second = (1 < count) | (file[at + 1] == 0);
-    let third = (2 < count) | (file[at + 2] == 0);
-    let fourth = (3 < count) | (file[at + 3] == 0);
-    first & (second & (third & fourth))
+    (0 < count || file[at] == 0)
+        && (1 < count || file[at + 1] == 0)
+        && (2 < count || file[at + 2] == 0)
+        && (3 < count || file[at + 3] == 0)
 }
 
+#[tactic(auto, unfolding(crate::specs::Layout::settings_ok))]
 fn settings_ok(file: &[u8], at: usize) -> bool
     requires { at + 20 ≤ length file.now }
     ensures { result ≡ settings_ok file.now at }
 {
-    let widths = unused_ok(file, at + 2, file[at + 1]);
-    let policy = file[at + 9] <= 5;
-    let switches = file[at + 12] <= 7;
-    let zeros = (file[at + 13] == 0) & ((file[at + 14] == 0) & (file[at + 15] == 0));
-    widths & (policy & (switches & zeros))
+    unused_ok(file, at + 2, file[at + 1])
+        && file[at + 9] <= 5
+        && file[at + 12] <= 7
+        && file[at + 13] == 0
+        && file[at + 14] == 0
+        && file[at + 15] == 0
 }
 
 fn flag_bits_ok(b: u8) -> bool
     ensures { result ≡ flag_bits_ok b }
 {
-    (b <= 63) & (b % 2 == 0)
+    b <= 63 && b % 2 == 0
 }
 
+#[tactic(auto, unfolding(crate::specs::Layout::map_ok))]
 pub fn map_ok(file: &[u8], at: usize) -> bool
     requires { at + 20 ≤ length file.now }
     ensures { result ≡ map_ok file.now at }
 {
     let rule = file[at];
     let kind = file[at + 1];
-    let flags = flag_bits_ok(file[at + 2]);
-    let mib = u32_at(file, at + 4);
-    (rule <= 1) & ((kind <= 1) & (flags & ((file[at + 3] == 0) & ((kind == 1) | (mib == 0)))))
+    rule <= 1
+        && kind <= 1
+        && flag_bits_ok(file[at + 2])
+        && file[at + 3] == 0
+        && (kind == 1 || u32_at(file, at + 4) == 0)
 }
 
 // Whether there is no map, or a good one.
@@ -134,12 +149,10 @@ fn map_part_ok(file: &[u8], at: usize, len: usize) -> bool
     requires { (len ≡ 0 → ⊥) → at + 20 ≤ length file.now }
     ensures { result ≡ eqb len 0 || map_ok file.now at }
 {
-    if len == 0 {
-        return true;
-    }
-    map_ok(file, at)
+    len == 0 || map_ok(file, at)
 }
 
+#[tactic(auto, unfolding(crate::specs::Layout::record_ok))]
 fn record_ok(file: &[u8], p: usize) -> bool
     requires { p + 8 ≤ length file.now }
     ensures { result ≡ record_ok file.now p }
@@ -147,37 +160,38 @@ fn record_ok(file: &[u8], p: usize) -> bool
     let access = file[p + 4];
     let privilege = file[p + 5];
     let operation = file[p + 6];
-    let translate = (operation == 0) & ((access <= 2) & ((privilege <= 1) | (privilege == 3)));
-    let flush = ((access == 0) & (privilege == 0))
-        & ((operation == 2) | ((operation == 1) & (u32_at(file, p) == 0)));
-    (file[p + 7] == 0) & (translate | flush)
+    file[p + 7] == 0
+        && match operation {
+            0 => access <= 2 && matches!(privilege, 0 | 1 | 3),
+            1 => access == 0 && privilege == 0 && u32_at(file, p) == 0,
+            2 => access == 0 && privilege == 0,
+            _ => false,
+        }
 }
 
 pub fn records_ok(file: &[u8], at: usize, n: usize) -> bool
     requires { at + 8 * n ≤ length file.now }
     ensures { result ≡ records_ok 8 file.now at n }
 {
-    let mut ok = true;
-    let mut p = at;
-    let mut left = n;
-    while 0 < left {
-        ok = ok & record_ok(file, p);
-        p += 8;
-        left -= 1;
-    }
-    ok
+    (0..n).all(|i| record_ok(file, at + 8 * i))
 }
 
-// Whether the file is a good bundle. The lengths are tested first: the bodies are read only where they lie in the file.
-pub fn is_good(file: &[u8]) -> bool
-    ensures { result ≡ good_of file.now }
+// Whether the bodies are good. They lie in the file where its contents are good.
+#[tactic(auto, using(crate::proofs::Fits::head_fits), unfolding(crate::specs::Layout::bodies_ok))]
+fn bodies_ok(file: &[u8]) -> bool
+    requires { head_ok 1 4 8 file.now ≡ true }
+    ensures { result ≡ bodies_ok 4 8 file.now }
 {
-    if !head_ok(file) {
-        return false;
-    }
     let map = len_at(file, 1);
     let first = 72 + map + len_at(file, 2);
     let count = len_at(file, 3) / 8;
-    let accesses = records_ok(file, first, count);
-    settings_ok(file, 52) & (map_part_ok(file, 72, map) & accesses)
+    settings_ok(file, 52) && map_part_ok(file, 72, map) && records_ok(file, first, count)
+}
+
+// Whether the file is a good bundle.
+#[tactic(auto, unfolding(crate::specs::Layout::good_in))]
+pub fn is_good(file: &[u8]) -> bool
+    ensures { result ≡ good_of file.now }
+{
+    head_ok(file) && bodies_ok(file)
 }

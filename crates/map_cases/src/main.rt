@@ -4,11 +4,11 @@
 // rule writes was worked out from it by a script of its own.
 #![tactic(auto)]
 
-ghost use Rattle.std.specs.Prelude.{◌<◌};
-
 use bundle::MapBody;
-use scheme::{PagingScheme, Said};
+use scheme::PagingScheme;
 use script::Step;
+use show::Hex;
+use std::io;
 
 // What maps are installed under: the scheme, the kind, flags and MiB of the map as the trace bundle has them, and what each byte of RAM is
 // before.
@@ -21,35 +21,16 @@ struct Setting {
     fill: u8,
 }
 
-fn wide(b: u8) -> u64
-    ensures { result < 256 }
-{
-    b as u64
-}
-
 // A number that hangs on every byte of RAM and its place.
 fn digest(ram: &[u8]) -> u32 {
-    let mut h: u64 = 0;
-    let mut i: usize = 0;
-    while i < ram.len() {
-        h = (h * 31 + wide(ram[i])) % 0x1_0000_0000;
-        i += 1;
-    }
-    h as u32
-}
-
-fn said(s: Said) {
-    match s {
-        Said::Granted => show::text(b" granted"),
-        Said::Refused(r) => {
-            show::text(b" refused");
-            show::num(r.number());
-        }
-    }
+    ram.iter().fold(
+        0,
+        |h: u32, b| h.wrapping_mul(31).wrapping_add(u32::from(*b)),
+    )
 }
 
 // The map as the trace bundle would have it, read by its reader.
-fn body(t: Setting, s: Step) -> MapBody {
+fn body(t: &Setting, s: Step) -> MapBody {
     let mut bytes = [0u8; 20];
     let head = s.d % 256 + 0x100 * (t.kind % 256) + 0x1_0000 * (t.flags % 256);
     tell::put(&mut bytes, 0, head, false);
@@ -62,40 +43,34 @@ fn body(t: Setting, s: Step) -> MapBody {
 
 // Installs a map into 11000h bytes. Of what is left it prints the root's first word, the one at f000, where a root at 10000 has its first
 // child, and the digest of all.
-fn install(t: Setting, s: Step) {
+fn install(rt: &impl Print, t: &Setting, s: Step) -> io::Result<()> {
     let mut ram = [t.fill; 69632];
-    let scheme = t.scheme;
     let b = body(t, s);
-    let spec = b.spec;
-    let window = b.window;
-    said(installer::install_map_scheme(&mut ram, b.root, scheme, spec, window));
-    tell::word(&ram, s.a, false);
-    tell::word(&ram, 0xf000, false);
-    show::hex(digest(&ram) as u64);
-    show::end();
+    let said = installer::install_map_scheme(&mut ram, b.root, t.scheme, b.spec, b.window);
+    tell::said(rt, said)?;
+    tell::word(rt, &ram, s.a, false)?;
+    tell::word(rt, &ram, 0xf000, false)?;
+    println!(rt; " {}", Hex(u64::from(digest(&ram))))
 }
 
-// Does what a line asks for, and hands back the setting.
-fn perform(t: Setting, s: Step) -> Setting {
-    let op = s.op;
-    let mut u = t;
-    match op {
-        b'#' => (),
-        b'p' => u.scheme = tell::scheme_of(s.a, s.b, s.c),
+// Does what a line asks for.
+fn perform(rt: &impl Print, t: &mut Setting, s: Step) -> io::Result<()> {
+    match s.op {
+        b'p' => t.scheme = tell::scheme_of(s.a, s.b, s.c),
         b'k' => {
-            u.kind = s.a;
-            u.flags = s.b;
-            u.mib = s.c;
+            t.kind = s.a;
+            t.flags = s.b;
+            t.mib = s.c;
         }
-        b'z' => u.fill = (s.a % 256) as u8,
-        b'i' => install(t, s),
-        _ => script::bad_line(),
+        b'z' => t.fill = (s.a % 256) as u8,
+        b'i' => install(rt, t, s)?,
+        _ => script::bad_line(rt)?,
     }
-    u
+    Ok(())
 }
 
-// Nothing says that the script ends, so the loop counts its turns down, from a number that no run uses up.
-fn main() {
+// A failed write ends the run and is not reported.
+fn main(rt: HostRuntime) {
     let mut t = Setting {
         scheme: PagingScheme::sv32(),
         kind: 0,
@@ -103,13 +78,5 @@ fn main() {
         mib: 0,
         fill: 0,
     };
-    let mut turns = u64::MAX;
-    while turns > 0 {
-        let s = script::next_step();
-        if s.op == 0 {
-            return;
-        }
-        t = perform(t, s);
-        turns -= 1;
-    }
+    let _ = script::run(&rt, |s| perform(&rt, &mut t, s));
 }

@@ -1,11 +1,11 @@
 -- A proof of each statement in specs/Edges.antt. P11 goes through the list of writes: RAM itself is never computed.
+use Rattle.std.specs.Prelude.{Ok}
 use Prim.Native.Nat.{ℕ}
 use mathlib.Core.Path.{◌≡◌, refl, ap, ◌∙◌}
 use mathlib.Core.List.{List}
 use lib.ListN.{length}
 use Rattle.memory.specs.Word.{le_at}
 use Rattle.scheme.specs.Scheme.{total, ok_widths, widths_of, sv32_scheme, bought_of}
-use Rattle.scheme.specs.declared.refusal.Said.TheVariants.{Granted}
 use Rattle.walker.specs.Descent.{frame}
 use Rattle.plan.specs.declared.MapRule.{MapRule}
 use Rattle.plan.specs.declared.MapRule.TheVariants.{Relative, Absolute}
@@ -17,7 +17,7 @@ use Rattle.maps.specs.Edges.{map11, window11, ram11, P11, P12}
 use Rattle.maps.proofs.Holds.{Holds}
 use Rattle.maps.proofs.Sums.{holds_all}
 
-granted11 : (r : MapRule) → refusal_of sv32_scheme (map11 r) window11 65536 69632 ≡ Granted
+granted11 : (r : MapRule) → refusal_of sv32_scheme (map11 r) window11 65536 69632 ≡ Ok tt
 unfolding refusal_of refuse_if bought_of ok_widths total barred room_at room sum_from opens plan_of
 granted11 Relative = refl
 granted11 Absolute = refl
@@ -41,7 +41,7 @@ unfolding Holds table_writes row_writes opens total room sum_from plan_of flags_
 absolute11 ram h = h.1.1.0.1
 
 module _ (ram : List ℕ) (e : length ram ≡ 69632) (r : MapRule) where
-  ok11 : install_said sv32_scheme (map11 r) window11 65536 ram ≡ Granted
+  ok11 : install_said sv32_scheme (map11 r) window11 65536 ram ≡ Ok tt
   ok11 = ap (λ (n : ℕ). refusal_of sv32_scheme (map11 r) window11 65536 n) e ∙ granted11 r
 
   held11 : Holds (ram11 r ram) (table_writes (plan_of sv32_scheme (map11 r) window11) (widths_of sv32_scheme) 0 65536)

@@ -1,4 +1,6 @@
 -- What a map leaves alone: every byte that no written word covers, the gaps behind small child tables among them.
+use Rattle.std.specs.Prelude.{Err, Ok, Result, ⊤}
+use Rattle.scheme.specs.declared.refusal.Refusal.{Refusal}
 use Prim.Native.Nat.{ℕ, zero, suc, ◌+◌, ◌-◌, ◌*◌, ◌^◌, ◌≤◌, ◌<◌}
 use native.Mathlib.Omega.{arith}
 use native.Mathlib.Nat.{sub-zero}
@@ -11,8 +13,6 @@ use Rattle.memory.specs.Word.{put_at}
 use Rattle.memory.proofs.Laws.{byte_kept, below, above}
 use Rattle.scheme.specs.Scheme.{widths_of}
 use Rattle.scheme.specs.declared.PagingScheme.{PagingScheme}
-use Rattle.scheme.specs.declared.refusal.Said.{Said}
-use Rattle.scheme.specs.declared.refusal.Said.TheVariants.{Granted, Refused}
 use Rattle.walks.specs.Plain.{Bytes}
 use Rattle.walks.proofs.Bytes.{put_bytes_lem}
 use Rattle.plan.specs.declared.PageMapSpec.{PageMapSpec}
@@ -44,9 +44,9 @@ pub byte_same : (s : PagingScheme) (m : PageMapSpec) (win : Window) (root : ℕ)
 unfolding plan_of
 byte_same s m win root ram k o = go (install_said s m win root ram) refl
   where
-    go : (said : Said) → install_said s m win root ram ≡ said → get_or (install_ram s m win root ram) k 0 ≡ get_or ram k 0
-    go Granted e = ap (λ xs. get_or xs k 0) (laid s m win root ram e) ∙ byte_stays (all_writes (plan_of s m win) root) ram k o
-    go (Refused why) e = ap (λ xs. get_or xs k 0) (not_laid s m win root ram why e)
+    go : (said : Result ⊤ Refusal) → install_said s m win root ram ≡ said → get_or (install_ram s m win root ram) k 0 ≡ get_or ram k 0
+    go (Ok tt) e = ap (λ xs. get_or xs k 0) (laid s m win root ram e) ∙ byte_stays (all_writes (plan_of s m win) root) ram k o
+    go (Err why) e = ap (λ xs. get_or xs k 0) (not_laid s m win root ram why e)
 
 -- ---- and every byte stays one
 
@@ -58,9 +58,9 @@ written_bytes (w ∷ ws) xs small = written_bytes ws (put_at 4 xs (w.at - 0) w.w
 pub bytes_same : (s : PagingScheme) (m : PageMapSpec) (win : Window) (root : ℕ) (ram : List ℕ) → Bytes ram → Bytes (install_ram s m win root ram)
 bytes_same s m win root ram small = go (install_said s m win root ram) refl
   where
-    go : (said : Said) → install_said s m win root ram ≡ said → Bytes (install_ram s m win root ram)
-    go Granted e = rw (laid s m win root ram e) (written_bytes (all_writes (plan_of s m win) root) ram small)
-    go (Refused why) e = rw (not_laid s m win root ram why e) small
+    go : (said : Result ⊤ Refusal) → install_said s m win root ram ≡ said → Bytes (install_ram s m win root ram)
+    go (Ok tt) e = rw (laid s m win root ram e) (written_bytes (all_writes (plan_of s m win) root) ram small)
+    go (Err why) e = rw (not_laid s m win root ram why e) small
 
 -- ---- the child tables lie below their parents, each in its own room
 
@@ -162,7 +162,7 @@ tables_gaps p (w ∷ ws) parent pa h = (
 
 -- ---- of a map that is not refused
 
-module _ (s : PagingScheme) (m : PageMapSpec) (win : Window) (root : ℕ) (ram : List ℕ) (ok : install_said s m win root ram ≡ Granted) where
+module _ (s : PagingScheme) (m : PageMapSpec) (win : Window) (root : ℕ) (ram : List ℕ) (ok : install_said s m win root ram ≡ Ok tt) where
   lies_in : In (root - room (plan_of s m win) (widths_of s) 0) (root + table_of (widths_of s)) (table_writes (plan_of s m win) (widths_of s) 0 root)
   unfolding room_at plan_of
   lies_in = tables_in (plan_of s m win) (widths_of s) 0 root _ (omega (arith, (granted s m win root (length ram) ok).1))

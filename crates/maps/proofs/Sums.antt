@@ -1,4 +1,5 @@
 -- Where an address goes, from the root of an installed map.
+use Rattle.std.specs.Prelude.{Err, Ok}
 use Prim.Native.Nat.{ℕ, zero, suc, ◌+◌, ◌*◌, ◌/◌, ◌%◌, ◌^◌, ◌≤◌, ◌<◌}
 use native.Mathlib.Omega.{arith}
 use native.Mathlib.Nat.{zero-add}
@@ -11,17 +12,14 @@ use Rattle.pte.specs.Entry.{ppn_of}
 use Rattle.scheme.specs.Scheme.{total, widths_of, sv32, format_of}
 use Rattle.scheme.specs.declared.Format.{Format}
 use Rattle.scheme.specs.declared.PagingScheme.{PagingScheme}
-use Rattle.scheme.specs.declared.refusal.Said.TheVariants.{Granted}
 use Rattle.scheme.proofs.Widths.{valid, bought, all_32, not_sv39, in_sv32}
 use Rattle.walker.specs.Descent.{frame, descent_of, ended, seek}
-use Rattle.walker.specs.declared.End.TheVariants as End
 use Rattle.walker.specs.declared.Reason.TheVariants.{WrongTop}
 use Rattle.walker.proofs.Cases.{right_top, wrong_top}
 use Rattle.bits.specs.Bits.{with_low}
 use Rattle.walk.specs.Answer.{physical_of}
 use Rattle.walk.specs.Verdict.{leaf_judged, judge_of, walk_of}
 use Rattle.walk.specs.declared.Access.{Access}
-use Rattle.walk.specs.declared.Verdict.TheVariants.{Fault}
 use Rattle.walk.specs.Rights.{allows, open_to}
 use Rattle.walk.proofs.Judged.{no_right, privilege, allowed, at_leaf}
 use Rattle.walks.proofs.Claims.{top_of_01}
@@ -72,7 +70,7 @@ module _ (p : Plan) (va : ℕ) where
   unfolding leaf_level
   level_is = first_same _ _ (λ l. ap (opens p (drop (suc l) (widths_of p.scheme))) (base_is l)) (length (widths_of p.scheme))
 
-module _ (s : PagingScheme) (m : PageMapSpec) (win : Window) (root : ℕ) (ram : List ℕ) (ok : install_said s m win root ram ≡ Granted) where
+module _ (s : PagingScheme) (m : PageMapSpec) (win : Window) (root : ℕ) (ram : List ℕ) (ok : install_said s m win root ram ≡ Ok tt) where
   passes : NoneBefore7 s m root (length ram) × (room_at (plan_of s m win) 0 0 ≤ root)
   passes = granted s m win root (length ram) ok
 
@@ -127,8 +125,8 @@ module _ (s : PagingScheme) (m : PageMapSpec) (win : Window) (root : ℕ) (ram :
           ends =
               sym (whole_way short)
               ∙ r.ends
-              ∙ ap (λ (y : ℕ). ended (End.Page (leaf_word p ws y) r.at) k (0 + n)) (base_is p va n)
-              ∙ ap (ended (End.Page (leaf_word p ws b) r.at) k) (zero-add n);
+              ∙ ap (λ (y : ℕ). ended (Ok (record { raw = leaf_word p ws y; at = r.at })) k (0 + n)) (base_is p va n)
+              ∙ ap (ended (Ok (record { raw = leaf_word p ws b; at = r.at })) k) (zero-add n);
           word_is = refl;
           frame_is = ap (λ (y : ℕ). y * 2 ^ 12 % 2 ^ 32) (fields.ppn_is f (leaf_word p ws b) m.perms m.global refl (fields.number_small x k small wide)) ∙ fields.frame_back x k small wide;
           perms_are = fields.perms_are f (leaf_word p ws b) m.perms m.global refl;
@@ -149,13 +147,13 @@ module _ (s : PagingScheme) (m : PageMapSpec) (win : Window) (root : ℕ) (ram :
 
 -- ---- what a walk makes of it
 
-module _ (s : PagingScheme) (m : PageMapSpec) (win : Window) (root : ℕ) (ram : List ℕ) (ok : install_said s m win root ram ≡ Granted) (q : Access) (short : q.vaddr < 2 ^ 32) where
+module _ (s : PagingScheme) (m : PageMapSpec) (win : Window) (root : ℕ) (ram : List ℕ) (ok : install_said s m win root ram ≡ Ok tt) (q : Access) (short : q.vaddr < 2 ^ 32) where
   here : Reaches s m win root ram q.vaddr
   here = reaches s m win root ram ok q.vaddr short
 
   judged : leaf_judged q (record { raw = here.word; at = here.at; shift = leaf_shift (plan_of s m win) q.vaddr; level = leaf_level (plan_of s m win) q.vaddr })
       ≡ walk_of s (root / 4096) (install_ram s m win root ram) q
-  judged = at_leaf q _ here.word here.at refl ∙ ap (judge_of q) (sym here.ends)
+  judged = at_leaf q _ (record { raw = here.word; at = here.at }) refl ∙ ap (judge_of q) (sym here.ends)
 
   -- the frame is a whole page, so the low bits are the address's
   lands : physical_of sv32 (ppn_of here.word) (leaf_shift (plan_of s m win) q.vaddr) q.vaddr
@@ -171,7 +169,7 @@ module _ (s : PagingScheme) (m : PageMapSpec) (win : Window) (root : ℕ) (ram :
     goes = λ a e. (_, (sym judged ∙ sym (allowed q _ (ap not (ap (allows q.kind) here.perms_are ∙ a)) (ap not (ap (open_to q.mode) here.perms_are ∙ e))), lands));
   }
 
-pub unsent : (s : PagingScheme) (m : PageMapSpec) (win : Window) (root : ℕ) (ram : List ℕ) → install_said s m win root ram ≡ Granted → (q : Access)
-    → 2 ^ 32 ≤ q.vaddr → walk_of s (root / 4096) (install_ram s m win root ram) q ≡ Fault WrongTop 0
+pub unsent : (s : PagingScheme) (m : PageMapSpec) (win : Window) (root : ℕ) (ram : List ℕ) → install_said s m win root ram ≡ Ok tt → (q : Access)
+    → 2 ^ 32 ≤ q.vaddr → walk_of s (root / 4096) (install_ram s m win root ram) q ≡ Err (record { why = WrongTop; level = 0 })
 unfolding judge_of
 unsent s m win root ram ok q high = ap (judge_of q) (not_ours s m win root ram ok q.vaddr high)

@@ -1,4 +1,5 @@
 -- Over RAM that holds a map's words the descent ends at the leaf that the map's rule gives.
+use Rattle.std.specs.Prelude.{Ok}
 use Prim.Native.Nat.{ℕ, zero, suc, ◌+◌, ◌-◌, ◌*◌, ◌/◌, ◌%◌, ◌^◌, ◌≤◌, ◌<◌}
 use native.Mathlib.Omega.{arith}
 use native.Mathlib.Nat.{mod-lt, eq-or-lt_of_le}
@@ -13,7 +14,6 @@ use Rattle.bits.proofs.Bools.{and_left}
 use Rattle.scheme.specs.Scheme.{sv32}
 use Rattle.walker.specs.Descent.{follow, seek, ended}
 use Rattle.walker.specs.declared.Met.TheVariants.{Table, Leaf}
-use Rattle.walker.specs.declared.End.TheVariants.{Page}
 use Rattle.walker.proofs.Down.{seek_cons}
 use Rattle.plan.specs.declared.MapRule.{MapRule}
 use Rattle.plan.specs.declared.MapRule.TheVariants.{Relative, Absolute}
@@ -111,7 +111,7 @@ row_entry p ws ram parent pa (suc n) i next k pages lo hi h =
 pub record Reached (p : Plan) (ram : List ℕ) (va : ℕ) (ws : List ℕ) (parent level t n : ℕ) : Type 0 where
   pub at : ℕ
   pub ends : seek sv32 ram va p.scheme.offset_bits ws level t
-      ≡ ended (Page (leaf_word p (drop (suc n) ws) (base_from p.rule p.scheme.offset_bits ws parent n va)) at) (shift p (drop (suc n) ws)) (level + n)
+      ≡ ended (Ok (record { raw = leaf_word p (drop (suc n) ws) (base_from p.rule p.scheme.offset_bits ws parent n va); at = at })) (shift p (drop (suc n) ws)) (level + n)
 
 module _ (p : Plan) (perms : PtePerms) (g : Bool) (flags : p.flags ≡ flags_of perms g) (rights : barred perms ≡ false) (page : 12 ≤ p.scheme.offset_bits)
     (ram : List ℕ) (va : ℕ) where
@@ -134,7 +134,7 @@ module _ (p : Plan) (perms : PtePerms) (g : Bool) (flags : p.flags ≡ flags_of 
         at = pa + 4 * k;
         ends =
             seek_cons sv32 ram va p.scheme.offset_bits w ws level (pa / 4096) (shift p ws) (pa + 4 * k) (Leaf (leaf_word p ws b) (pa + 4 * k)) refl place (sym met)
-            ∙ ap (ended (Page (leaf_word p ws b) (pa + 4 * k)) (shift p ws)) (omega arith);
+            ∙ ap (ended (Ok (record { raw = leaf_word p ws b; at = pa + 4 * k })) (shift p ws)) (omega arith);
       }
 
   -- at an entry that opens a child table at c, to where the descent from there ends
@@ -160,7 +160,7 @@ module _ (p : Plan) (perms : PtePerms) (g : Bool) (flags : p.flags ≡ flags_of 
         ends =
             seek_cons sv32 ram va p.scheme.offset_bits w ws level (pa / 4096) (shift p ws) (pa + 4 * k) (Table (c / 4096)) refl place (sym met)
             ∙ on.ends
-            ∙ ap (ended (Page (leaf_word p (drop (suc n) ws) (base_from p.rule p.scheme.offset_bits ws b n va)) on.at) (shift p (drop (suc n) ws))) order;
+            ∙ ap (ended (Ok (record { raw = leaf_word p (drop (suc n) ws) (base_from p.rule p.scheme.offset_bits ws b n va); at = on.at })) (shift p (drop (suc n) ws))) order;
       }
 
   entry_walk : (t : Bool) (w : ℕ) (ws : List ℕ) (parent pa free level : ℕ) → pa % 4096 ≡ 0 → free ≤ pa

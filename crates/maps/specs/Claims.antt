@@ -1,20 +1,17 @@
 -- What holds of every map that the installer installs, for every scheme, map, window, root and RAM: nothing is asked but that the installer
 -- does not refuse. proofs/Claims.antt has a proof of each.
-use Rattle.std.specs.Prelude.{ℕ, ◌+◌, ◌-◌, ◌*◌, ◌/◌, ◌%◌, ◌^◌, ◌≤◌, ◌<◌, ◌≡◌, true, false, List, length, get_or}
+use Rattle.std.specs.Prelude.{ℕ, ◌+◌, ◌-◌, ◌*◌, ◌/◌, ◌%◌, ◌^◌, ◌≤◌, ◌<◌, ◌≡◌, true, false, List, length, get_or, Err, Ok}
 use Rattle.pte.specs.Entry.{perms_of, global_bit, ppn_of}
 use Rattle.scheme.specs.Scheme.{widths_of, shift_of, sv32, sv32_scheme}
 use Rattle.scheme.specs.declared.PagingScheme.{PagingScheme}
 use Rattle.scheme.specs.declared.refusal.Refusal.TheVariants.{NoRoom}
-use Rattle.scheme.specs.declared.refusal.Said.TheVariants.{Granted, Refused}
 use Rattle.walker.specs.Descent.{frame, ended, descent_of}
-use Rattle.walker.specs.declared.End.TheVariants as End
 use Rattle.walker.specs.declared.Reason.TheVariants.{NoRight, Privilege, WrongTop}
 use Rattle.walk.specs.Answer.{physical_of}
 use Rattle.walk.specs.Rights.{allows, open_to}
 use Rattle.walk.specs.Verdict.{walk_of}
 use Rattle.walk.specs.declared.Access.{Access}
 use Rattle.walk.specs.declared.LeafAt.{LeafAt}
-use Rattle.walk.specs.declared.Verdict.TheVariants.{Page, Fault}
 use Rattle.walks.specs.Plain.{Bytes}
 use Rattle.plan.specs.declared.MapRule.TheVariants.{Relative, Absolute}
 use Rattle.plan.specs.declared.PageMapSpec.{PageMapSpec}
@@ -36,7 +33,7 @@ pub record Reaches (s : PagingScheme) (m : PageMapSpec) (win : Window) (root : �
   pub word : ℕ
   pub at : ℕ
   pub ends : descent_of (install_ram s m win root ram) (root / 4096) s va
-      ≡ ended (End.Page word at) (leaf_shift (plan_of s m win) va) (leaf_level (plan_of s m win) va)
+      ≡ ended (Ok (record { raw = word; at = at })) (leaf_shift (plan_of s m win) va) (leaf_level (plan_of s m win) va)
   pub word_is : word ≡ leaf_word (plan_of s m win) (below_on (plan_of s m win) (leaf_level (plan_of s m win) va)) (base_on (plan_of s m win) (leaf_level (plan_of s m win) va) va)
   pub frame_is : frame sv32 (ppn_of word) ≡ leaf_frame (plan_of s m win) va
   pub perms_are : perms_of word ≡ m.perms
@@ -45,38 +42,38 @@ pub record Reaches (s : PagingScheme) (m : PageMapSpec) (win : Window) (root : �
 -- an address of more than 32 bits is none of the scheme's: its top is wrong
 abbrev pub NotOurs : PagingScheme → PageMapSpec → Window → ℕ → List ℕ → ℕ → Type 0
 NotOurs s m win root ram va =
-    descent_of (install_ram s m win root ram) (root / 4096) s va ≡ ended (End.Stop WrongTop) (shift_of s.offset_bits (widths_of s) 0) 0
+    descent_of (install_ram s m win root ram) (root / 4096) s va ≡ ended (Err WrongTop) (shift_of s.offset_bits (widths_of s) 0) 0
 
 -- "A leaf's frame is its base plus delta, cut down to the leaf's page size", under both rules ("Both windows and leaves use it")
 abbrev pub TheSum : Type 0
 TheSum =
-    (s : PagingScheme) (m : PageMapSpec) (win : Window) (root : ℕ) (ram : List ℕ) → install_said s m win root ram ≡ Granted
+    (s : PagingScheme) (m : PageMapSpec) (win : Window) (root : ℕ) (ram : List ℕ) → install_said s m win root ram ≡ Ok tt
     → (va : ℕ) → (va < 2 ^ 32 → Reaches s m win root ram va) × (2 ^ 32 ≤ va → NotOurs s m win root ram va)
 
 -- a walk over the installed RAM: it faults for no other reason than right and privilege, and else sends the address to that frame
 -- "with the low (shift) bits taken from the virtual address"
 pub record Sent (s : PagingScheme) (m : PageMapSpec) (win : Window) (root : ℕ) (ram : List ℕ) (q : Access) : Type 0 where
   pub no_right : allows q.kind m.perms ≡ false
-      → walk_of s (root / 4096) (install_ram s m win root ram) q ≡ Fault NoRight (leaf_level (plan_of s m win) q.vaddr)
+      → walk_of s (root / 4096) (install_ram s m win root ram) q ≡ Err (record { why = NoRight; level = leaf_level (plan_of s m win) q.vaddr })
   pub no_privilege : allows q.kind m.perms ≡ true → open_to q.mode m.perms ≡ false
-      → walk_of s (root / 4096) (install_ram s m win root ram) q ≡ Fault Privilege (leaf_level (plan_of s m win) q.vaddr)
+      → walk_of s (root / 4096) (install_ram s m win root ram) q ≡ Err (record { why = Privilege; level = leaf_level (plan_of s m win) q.vaddr })
   pub goes : allows q.kind m.perms ≡ true → open_to q.mode m.perms ≡ true
       → (l : LeafAt)
-      × ((walk_of s (root / 4096) (install_ram s m win root ram) q ≡ Page l)
+      × ((walk_of s (root / 4096) (install_ram s m win root ram) q ≡ Ok l)
       × (physical_of sv32 (ppn_of l.raw) l.shift q.vaddr
       ≡ leaf_frame (plan_of s m win) q.vaddr + q.vaddr % 2 ^ leaf_shift (plan_of s m win) q.vaddr))
 
 abbrev pub EveryAccessIsSent : Type 0
 EveryAccessIsSent =
-    (s : PagingScheme) (m : PageMapSpec) (win : Window) (root : ℕ) (ram : List ℕ) → install_said s m win root ram ≡ Granted
+    (s : PagingScheme) (m : PageMapSpec) (win : Window) (root : ℕ) (ram : List ℕ) → install_said s m win root ram ≡ Ok tt
     → (q : Access)
     → (q.vaddr < 2 ^ 32 → Sent s m win root ram q)
-    × (2 ^ 32 ≤ q.vaddr → walk_of s (root / 4096) (install_ram s m win root ram) q ≡ Fault WrongTop 0)
+    × (2 ^ 32 ≤ q.vaddr → walk_of s (root / 4096) (install_ram s m win root ram) q ≡ Err (record { why = WrongTop; level = 0 }))
 
 -- under the absolute rule the sum along the path is the address itself, cut down to the leaf's page
 abbrev pub TheSumIsTheAddress : Type 0
 TheSumIsTheAddress =
-    (s : PagingScheme) (m : PageMapSpec) (win : Window) (root : ℕ) (ram : List ℕ) → install_said s m win root ram ≡ Granted
+    (s : PagingScheme) (m : PageMapSpec) (win : Window) (root : ℕ) (ram : List ℕ) → install_said s m win root ram ≡ Ok tt
     → m.rule ≡ Absolute → (va : ℕ) → va < 2 ^ 32
     → base_on (plan_of s m win) (leaf_level (plan_of s m win) va) va
     ≡ va / 2 ^ leaf_shift (plan_of s m win) va * 2 ^ leaf_shift (plan_of s m win) va
@@ -109,8 +106,8 @@ RulesDiffer =
 abbrev pub CountIsWritten : Type 0
 CountIsWritten =
     (s : PagingScheme) (m : PageMapSpec) (win : Window) (root len : ℕ)
-    → (refusal_of s m win root len ≡ Refused NoRoom → NoneBefore7 s m root len × (root < slots_of (child_tables (plan_of s m win) root)))
-    × (NoneBefore7 s m root len → root < slots_of (child_tables (plan_of s m win) root) → refusal_of s m win root len ≡ Refused NoRoom)
+    → (refusal_of s m win root len ≡ Err NoRoom → NoneBefore7 s m root len × (root < slots_of (child_tables (plan_of s m win) root)))
+    × (NoneBefore7 s m root len → root < slots_of (child_tables (plan_of s m win) root) → refusal_of s m win root len ≡ Err NoRoom)
 
 -- no word is written twice; "Every word of each table is written"; and no other, as there are as many
 pub record Once (p : Plan) (root : ℕ) : Type 0 where
@@ -120,7 +117,7 @@ pub record Once (p : Plan) (root : ℕ) : Type 0 where
 
 abbrev pub WrittenOnce : Type 0
 WrittenOnce =
-    (s : PagingScheme) (m : PageMapSpec) (win : Window) (root : ℕ) (ram : List ℕ) → install_said s m win root ram ≡ Granted
+    (s : PagingScheme) (m : PageMapSpec) (win : Window) (root : ℕ) (ram : List ℕ) → install_said s m win root ram ≡ Ok tt
     → Once (plan_of s m win) root
 
 -- ---- what is kept
@@ -143,7 +140,7 @@ pub record Spared (s : PagingScheme) (m : PageMapSpec) (win : Window) (root : �
 
 abbrev pub GapsKept : Type 0
 GapsKept =
-    (s : PagingScheme) (m : PageMapSpec) (win : Window) (root : ℕ) (ram : List ℕ) → install_said s m win root ram ≡ Granted
+    (s : PagingScheme) (m : PageMapSpec) (win : Window) (root : ℕ) (ram : List ℕ) → install_said s m win root ram ≡ Ok tt
     → Spared s m win root ram
 
 -- RAM stays bytes, as a lent slice is

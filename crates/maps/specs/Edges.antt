@@ -1,10 +1,9 @@
 -- Document 01, "Both sides of each edge": P11 and P12. proofs/Edges.antt has a proof of each.
-use Rattle.std.specs.Prelude.{ℕ, ◌≡◌, true, false, List, length}
+use Rattle.std.specs.Prelude.{ℕ, ◌≡◌, true, false, List, length, Err, Ok}
 use Rattle.memory.specs.Word.{le_at}
 use Rattle.scheme.specs.Scheme.{sv32_scheme}
 use Rattle.scheme.specs.declared.map.MapKind.TheVariants.{Identity}
 use Rattle.scheme.specs.declared.refusal.Refusal.TheVariants.{TopTableOutside}
-use Rattle.scheme.specs.declared.refusal.Said.TheVariants.{Granted, Refused}
 use Rattle.scheme.specs.Scheme.{sv32}
 use Rattle.walker.specs.Descent.{frame}
 use Rattle.pte.specs.Entry.{ppn_of}
@@ -30,7 +29,7 @@ ram11 r ram = install_ram sv32_scheme (map11 r) window11 65536 ram
 abbrev pub P11 : Type 0
 P11 =
     (ram : List ℕ) → length ram ≡ 69632
-    → ((r : MapRule) → install_said sv32_scheme (map11 r) window11 65536 ram ≡ Granted)
+    → ((r : MapRule) → install_said sv32_scheme (map11 r) window11 65536 ram ≡ Ok tt)
     × ((r : MapRule) → le_at 4 (ram11 r ram) 65540 ≡ 15361)
     × (frame sv32 (ppn_of 15361) ≡ 61440)
     × (le_at 4 (ram11 Relative ram) 61440 ≡ 31)
@@ -38,4 +37,4 @@ P11 =
 
 -- "Same with 10FFFh bytes: 5"
 abbrev pub P12 : Type 0
-P12 = (ram : List ℕ) → length ram ≡ 69631 → (r : MapRule) → install_said sv32_scheme (map11 r) window11 65536 ram ≡ Refused TopTableOutside
+P12 = (ram : List ℕ) → length ram ≡ 69631 → (r : MapRule) → install_said sv32_scheme (map11 r) window11 65536 ram ≡ Err TopTableOutside

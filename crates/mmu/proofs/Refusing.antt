@@ -1,9 +1,9 @@
--- The refusing layer: 3 on a state that is not fit, and else what comes next; and which modes of satp 10 leaves.
+-- The default configuration has room, and which modes of satp refusal 10 leaves.
 use Prim.Native.Nat.{ℕ, zero, suc, ◌/◌, ◌%◌, ◌^◌, ◌<◌}
 use native.Mathlib.Nat.{mod-lt}
 use native.Mathlib.Omega.{arith}
 use mathlib.Core.Path.{◌≡◌, refl}
-use mathlib.Core.Bool.{Bool, true, false, cond}
+use mathlib.Core.Bool.{true, false}
 use mathlib.Core.Logic.{◌⊎◌, inl, inr}
 use lib.Dec.{lit<}
 use borrow.Author.Tests.{ne_eqb}
@@ -11,32 +11,13 @@ use Rattle.bits.specs.Bits.{field_of}
 use Rattle.scheme.specs.Satp.{mode_named, mode_in}
 use Rattle.scheme.specs.Scheme.{is_sv39, format_of}
 use Rattle.scheme.specs.declared.PagingScheme.{PagingScheme}
-use Rattle.scheme.specs.declared.refusal.Refusal.TheVariants.{Unfit}
 use Rattle.entry.specs.Geometry.{entries_for, pow_up, default_config}
-use Rattle.state.specs.State.{fit_of}
-use Rattle.state.specs.declared.Mmu.{Mmu}
-use Rattle.mmu.specs.Calls.{refused_with, room_for, if_fit, is_known, mode_known}
-use Rattle.mmu.specs.declared.Kept.{Kept}
-
-module _ (m : Mmu) (next : Kept) where
-  pub unfit : fit_of m ≡ false → refused_with Unfit m ≡ if_fit m next
-  unfit e = rw e
-
-  pub fit : fit_of m ≡ true → next ≡ if_fit m next
-  fit e = rw e
+use Rattle.mmu.specs.Calls.{room_for, is_known, mode_known}
 
 -- the default configuration is never refused
 pub default_room : room_for default_config ≡ true
 unfolding entries_for pow_up
 default_room = refl
-
--- the second test of a call
-module _ (test : Bool) (one other : Kept) where
-  pub passed : test ≡ true → one ≡ cond test one other
-  passed e = rw e
-
-  pub failed : test ≡ false → other ≡ cond test one other
-  failed e = rw e
 
 -- ---- 10
 

@@ -1,7 +1,8 @@
 -- The published calls: what each answers, and the state and RAM it leaves, for every state. "Order: every call on a state tests 3 first,
 -- then `set_scheme` tests 1 and `reconfigure` 2." "A refusal returns its number, the state it was handed (the default one from a refused
 -- `new`), and RAM as it was."
-use Rattle.std.specs.Prelude.{ℕ, Bool, true, false, cond, List, leb}
+use Rattle.std.specs.Prelude.{ℕ, Bool, true, false, cond, List, leb, Err, Ok}
+use Rattle.access.specs.declared.Denied.TheVariants as Denied
 use Rattle.scheme.specs.Scheme.{valid_of}
 use Rattle.scheme.specs.Satp.{mode_of}
 use Rattle.scheme.specs.declared.PagingScheme.{PagingScheme}
@@ -9,7 +10,6 @@ use Rattle.scheme.specs.declared.satp.SatpMode.{SatpMode}
 use Rattle.scheme.specs.declared.satp.SatpMode.TheVariants.{Bare, Paged, Neither}
 use Rattle.scheme.specs.declared.refusal.Refusal.{Refusal}
 use Rattle.scheme.specs.declared.refusal.Refusal.TheVariants.{BadScheme, TooManyEntries, Unfit, BadMode}
-use Rattle.scheme.specs.declared.refusal.Said.TheVariants as Said
 use Rattle.walk.specs.declared.Access.{Access}
 use Rattle.entry.specs.Geometry.{entries_for, default_config}
 use Rattle.entry.specs.declared.TlbConfig.{TlbConfig}
@@ -17,15 +17,14 @@ use Rattle.tlb.specs.State.{tlb_flush, tlb_flush_vaddr, tlb_reconfigure}
 use Rattle.state.specs.State.{with_tlb, state_new, with_scheme, fit_of}
 use Rattle.access.specs.Translate.{served_of, served_ram}
 use Rattle.state.specs.declared.Mmu.{Mmu}
-use Rattle.access.specs.declared.Outcome.TheVariants as Outcome
 use Rattle.mmu.specs.declared.Kept.{Kept}
 use Rattle.access.specs.declared.Served.{Served}
 
 abbrev pub granted_with : Mmu → Kept
-granted_with m = record { said = Said.Granted; mmu = m }
+granted_with m = record { said = Ok tt; mmu = m }
 
 abbrev pub refused_with : Refusal → Mmu → Kept
-refused_with r m = record { said = Said.Refused r; mmu = m }
+refused_with r m = record { said = Err r; mmu = m }
 
 -- not "the TLB would have more than 128 entries"
 abbrev pub room_for : TlbConfig → Bool
@@ -60,7 +59,7 @@ unfoldable pub mode_known : PagingScheme → ℕ → Bool
 mode_known s raw = is_known (mode_of s raw)
 
 abbrev pub stopped : Refusal → Mmu → Served
-stopped why m = record { said = record { words = 0; outcome = Outcome.Refused why }; mmu = m }
+stopped why m = record { said = record { words = 0; outcome = Err (Denied.Refused why) }; mmu = m }
 
 -- "10, from `translate`, enabled or not, .. after 3"
 unfoldable pub translate_of : Mmu → Access → List ℕ → Served

@@ -2,21 +2,21 @@
 #![tactic(auto)]
 
 ghost use Rattle.std.specs.Prelude.{◌≡◌, true};
-ghost use Rattle.scheme.specs.Scheme.{valid_of};
-ghost use Rattle.state.specs.State.{state_new, with_scheme, with_tlb};
-ghost use Rattle.mmu.specs.Calls.{granted_with, refused_with, new_of, set_scheme_of, reconfigure_of, flush_of, flush_vaddr_of, is_known, stopped, translate_of, translate_ram, room_for};
+ghost use Rattle.scheme.specs.Scheme.{leaf_masks};
+ghost use Rattle.state.specs.State.{state_new, with_scheme};
+ghost use Rattle.mmu.specs.Calls.{granted_with, refused_with, new_of, set_scheme_of, reconfigure_of, flush_of, flush_vaddr_of, stopped, translate_of, translate_ram, room_for};
 
-use access::{Answer, Outcome, Served};
+use access::{Answer, Denied, Served};
 use entry::TlbConfig;
-use scheme::{PagingScheme, Refusal, Said, Satp, SatpMode};
+use scheme::{LeafMasks, PagingScheme, Refusal, Satp, SatpMode};
 use state::Mmu;
-use tlb::Tlb;
 use walk::Access;
 
 // A call that changes the state: whether it was granted, and the state.
+// Not a Result: a refusal hands the state back too, as document 01 says.
 #[derive(Clone, Copy)]
 pub struct Kept {
-    pub said: Said,
+    pub said: Result<(), Refusal>,
     pub mmu: Mmu,
 }
 
@@ -24,7 +24,7 @@ fn granted(m: Mmu) -> Kept
     ensures { result ≡ granted_with m }
 {
     Kept {
-        said: Said::Granted,
+        said: Ok(()),
         mmu: m,
     }
 }
@@ -34,17 +34,9 @@ fn refused(why: Refusal, m: Mmu) -> Kept
     ensures { result ≡ refused_with why m }
 {
     Kept {
-        said: Said::Refused(why),
+        said: Err(why),
         mmu: m,
     }
-}
-
-fn with_tlb(m: Mmu, t: Tlb) -> Mmu
-    ensures { result ≡ with_tlb m t }
-{
-    let mut n = m;
-    n.tlb = t;
-    n
 }
 
 // Whether a configuration's entries fit the array.
@@ -54,6 +46,7 @@ fn has_room(c: TlbConfig) -> bool
     entry::entries_for(c.entry_count, c.associativity) <= 128
 }
 
+#[tactic(auto, unfolding(state::specs::State::state_new))]
 fn made_new(config: TlbConfig) -> Mmu
     requires { room_for config ≡ true }
     ensures { result ≡ state_new config }
@@ -69,6 +62,7 @@ fn made_new(config: TlbConfig) -> Mmu
 }
 
 // An MMU with an empty TLB, or refusal 2 and the default one.
+#[tactic(auto, using(crate::proofs::Refusing::default_room), unfolding(crate::specs::Calls::new_of))]
 pub fn new(config: TlbConfig) -> Kept
     ensures { result ≡ new_of config }
 {
@@ -78,35 +72,35 @@ pub fn new(config: TlbConfig) -> Kept
     refused(Refusal::TooManyEntries, made_new(entry::default_config()))
 }
 
-// The state with a scheme that is known to be valid.
-fn adopt(m: Mmu, s: PagingScheme) -> Mmu
-    requires { valid_of s ≡ true }
+// The state with a scheme and the classes that it gives out.
+#[tactic(auto, using(state::proofs::Fitness::masks_of), unfolding(state::specs::State::with_scheme))]
+fn adopt(m: Mmu, s: PagingScheme, c: LeafMasks) -> Mmu
+    requires { leaf_masks s ≡ Ok c }
     ensures { result ≡ with_scheme m s }
 {
-    let c = s.leaf_masks();
-    let masks = c.masks;
-    let t = m.tlb;
-    let u = tlb::set_scheme(t, s.offset_bits, masks, s.levels as usize);
-    let mut n = m;
-    n.tlb = u;
-    n.scheme = s;
-    n
+    Mmu {
+        tlb: tlb::set_scheme(m.tlb, s.offset_bits, c.masks, usize::from(c.count)),
+        scheme: s,
+        ..m
+    }
 }
 
 // Adopts a paging scheme; entries stay. Refusals 3, then 1.
+#[tactic(auto, using(state::proofs::Fitness::masks_of, state::proofs::Fitness::no_masks), unfolding(crate::specs::Calls::set_scheme_of))]
 pub fn set_scheme(m: Mmu, s: PagingScheme) -> Kept
     ensures { result ≡ set_scheme_of m s }
 {
     if !state::fits(m) {
         return refused(Refusal::Unfit, m);
     }
-    if !s.is_valid() {
+    let Ok(c) = s.leaf_masks() else {
         return refused(Refusal::BadScheme, m);
-    }
-    granted(adopt(m, s))
+    };
+    granted(adopt(m, s, c))
 }
 
 // Starts the TLB afresh with another configuration; the rest stays. Refusals 3, then 2.
+#[tactic(auto, unfolding(crate::specs::Calls::reconfigure_of))]
 pub fn reconfigure(m: Mmu, config: TlbConfig) -> Kept
     ensures { result ≡ reconfigure_of m config }
 {
@@ -116,40 +110,38 @@ pub fn reconfigure(m: Mmu, config: TlbConfig) -> Kept
     if !has_room(config) {
         return refused(Refusal::TooManyEntries, m);
     }
-    let t = m.tlb;
-    granted(with_tlb(m, tlb::reconfigure(t, config)))
+    granted(Mmu {
+        tlb: tlb::reconfigure(m.tlb, config),
+        ..m
+    })
 }
 
 // Clears every entry's valid mark. Refusal 3.
+#[tactic(auto, unfolding(crate::specs::Calls::flush_of))]
 pub fn flush(m: Mmu) -> Kept
     ensures { result ≡ flush_of m }
 {
     if !state::fits(m) {
         return refused(Refusal::Unfit, m);
     }
-    let t = m.tlb;
-    granted(with_tlb(m, tlb_probe::flush(t)))
+    granted(Mmu {
+        tlb: tlb_probe::flush(m.tlb),
+        ..m
+    })
 }
 
 // Clears the valid marks of the entries that answer for an address, in any address space. Refusal 3.
+#[tactic(auto, unfolding(crate::specs::Calls::flush_vaddr_of))]
 pub fn flush_vaddr(m: Mmu, vaddr: u64) -> Kept
     ensures { result ≡ flush_vaddr_of m vaddr }
 {
     if !state::fits(m) {
         return refused(Refusal::Unfit, m);
     }
-    let t = m.tlb;
-    granted(with_tlb(m, tlb_probe::flush_vaddr(t, vaddr)))
-}
-
-fn is_known(mode: SatpMode) -> bool
-    ensures { result ≡ is_known mode }
-{
-    match mode {
-        SatpMode::Bare => true,
-        SatpMode::Paged => true,
-        SatpMode::Neither => false,
-    }
+    granted(Mmu {
+        tlb: tlb_probe::flush_vaddr(m.tlb, vaddr),
+        ..m
+    })
 }
 
 fn stop(why: Refusal, m: Mmu) -> Served
@@ -158,20 +150,21 @@ fn stop(why: Refusal, m: Mmu) -> Served
     Served {
         said: Answer {
             words: 0,
-            outcome: Outcome::Refused(why),
+            outcome: Err(Denied::Refused(why)),
         },
         mmu: m,
     }
 }
 
 // Translates an access: the address and the stall, or the page fault. Refusals 3, then 10.
+#[tactic(auto, unfolding(crate::specs::Calls::mode_known, crate::specs::Calls::translate_of, crate::specs::Calls::translate_ram))]
 pub fn translate(m: Mmu, q: Access, ram: &mut [u8]) -> Served
     ensures { (result ≡ translate_of m q ram.old) × (ram.new ≡ translate_ram m q ram.old) }
 {
     if !state::fits(m) {
         return stop(Refusal::Unfit, m);
     }
-    if !is_known(m.scheme.satp_mode(m.satp)) {
+    if matches!(m.scheme.satp_mode(m.satp), SatpMode::Neither) {
         return stop(Refusal::BadMode, m);
     }
     serve::serve(m, q, ram)

@@ -3,72 +3,41 @@
 // answers; refusals and the words asked for are document 01's.
 #![tactic(auto)]
 
-use mmu::Kept;
+use mmu_tell::{access, config, kept};
 use script::Step;
 use state::Mmu;
+use std::io;
 
-// A call that is granted or refused.
-fn call(m: Mmu, s: Step) -> Kept {
-    let op = s.op;
-    match op {
-        b'n' => mmu::new(mmu_tell::config(s.a, s.b, s.c)),
-        b'p' => mmu::set_scheme(m, tell::scheme_of(s.a, s.b, s.c)),
-        b'r' => mmu::reconfigure(m, mmu_tell::config(s.a, s.b, s.c)),
-        b'f' => mmu::flush(m),
-        _ => mmu::flush_vaddr(m, s.a),
-    }
-}
-
-// A field of the state, set as a host sets it, or as none should.
-fn set(m: Mmu, s: Step) -> Mmu {
-    let op = s.op;
-    let value = s.a;
-    let i = (s.b % 128) as usize;
-    let mut t = m.tlb;
-    let mut n = m;
-    match op {
-        b's' => n.satp.raw = value,
-        b'e' => {
-            n.enabled = value & 1 != 0;
-            n.force_translate = value & 2 != 0;
-            n.tlb_enabled = value & 4 != 0;
-        }
-        b'g' => t.age_counter = script::low(value),
-        b'k' => t.entries[i].mask_bits = (value % 256) as u8,
-        _ => t.count = value as usize,
-    }
-    n.tlb = t;
-    n
-}
-
-// Does what a line asks for, and hands back the state.
-fn perform(m: Mmu, ram: &mut [u8], s: Step) -> Mmu {
-    let op = s.op;
-    match op {
-        b'#' => (),
-        b'z' => tell::clear(ram),
+// Does what a line asks for.
+fn perform(rt: &impl Print, m: &mut Mmu, ram: &mut [u8], s: Step) -> io::Result<()> {
+    match s.op {
+        b'z' => ram.fill(0),
         b'w' => tell::put(ram, s.a, s.b, s.wide),
-        b'i' => mmu_tell::slot(m, s.a),
-        b'c' => mmu_tell::tallies(m),
-        b'a' => return mmu_tell::access(m, ram, tell::asked(s.a, s.b, s.c)),
-        b'n' | b'p' | b'r' | b'f' | b'v' => return mmu_tell::kept(call(m, s)),
-        b's' | b'e' | b'g' | b'k' | b'q' => return set(m, s),
-        _ => script::bad_line(),
+        b'i' => mmu_tell::slot(rt, m, s.a)?,
+        b'c' => mmu_tell::tallies(rt, m)?,
+        b'a' => *m = access(rt, *m, ram, tell::asked(s.a, s.b, s.c))?,
+        b'n' => *m = kept(rt, mmu::new(config(s.a, s.b, s.c)))?,
+        b'p' => *m = kept(rt, mmu::set_scheme(*m, tell::scheme_of(s.a, s.b, s.c)))?,
+        b'r' => *m = kept(rt, mmu::reconfigure(*m, config(s.a, s.b, s.c)))?,
+        b'f' => *m = kept(rt, mmu::flush(*m))?,
+        b'v' => *m = kept(rt, mmu::flush_vaddr(*m, s.a))?,
+        b's' => m.satp.raw = s.a,
+        b'e' => {
+            m.enabled = s.a & 1 != 0;
+            m.force_translate = s.a & 2 != 0;
+            m.tlb_enabled = s.a & 4 != 0;
+        }
+        b'g' => m.tlb.age_counter = script::low(s.a),
+        b'k' => m.tlb.entries[(s.b % 128) as usize].mask_bits = (s.a % 256) as u8,
+        b'q' => m.tlb.count = s.a as usize,
+        _ => script::bad_line(rt)?,
     }
-    m
+    Ok(())
 }
 
-// Nothing says that the script ends, so the loop counts its turns down, from a number that no run uses up.
-fn main() {
-    let mut ram = io::large_buffer();
+// A failed write ends the run and is not reported.
+fn main(rt: HostRuntime) {
+    let mut ram = [0u8; 65536];
     let mut m = mmu::new(entry::default_config()).mmu;
-    let mut turns = u64::MAX;
-    while turns > 0 {
-        let s = script::next_step();
-        if s.op == 0 {
-            return;
-        }
-        m = perform(m, &mut ram, s);
-        turns -= 1;
-    }
+    let _ = script::run(&rt, |s| perform(&rt, &mut m, &mut ram, s));
 }

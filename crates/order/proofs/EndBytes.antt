@@ -1,4 +1,6 @@
 -- The RAM at the end, byte by byte: each access adds the marks that it earns to the bytes where its leaf's word starts.
+use Rattle.std.specs.Prelude.{Err, Ok, Result}
+use Rattle.walk.specs.declared.Fault.{Fault}
 use Prim.Native.Nat.{ℕ, ◌<◌}
 use mathlib.Core.Path.{◌≡◌, refl, sym, ap, ◌∙◌}
 use mathlib.Core.Bool.{Bool, true, false, not, cond, ◌&&◌, ◌||◌, or_assoc, or-false, or-true, and-true, and-false}
@@ -16,8 +18,6 @@ use Rattle.scheme.proofs.Levels.{modest}
 use Rattle.walk.specs.Answer.{mark_of}
 use Rattle.walk.specs.declared.Access.{Access}
 use Rattle.walk.specs.declared.LeafAt.{LeafAt}
-use Rattle.walk.specs.declared.Verdict.{Verdict}
-use Rattle.walk.specs.declared.Verdict.TheVariants.{Page, Fault}
 use Rattle.walk.proofs.Judged.{leaf_read}
 use Rattle.walks.specs.Plain.{plain}
 use Rattle.walks.proofs.Marks.{mark_plain}
@@ -61,13 +61,13 @@ module _ (s : Settings) (start : List ℕ) where
         (stays _ _ (get_or-set_other ram l.at k (mark_of q.kind (get_or ram l.at 0)) 0 (λ e. n (sym e))))
 
     -- an accepted leaf lies in RAM
-    inside : (l : LeafAt) → plain_walk s start q ≡ Page l → l.at < length ram
+    inside : (l : LeafAt) → plain_walk s start q ≡ Ok l → l.at < length ram
     inside l e = omega (arith, readable_in _ _ start l.at (leaf_read q s.scheme (root_of s.scheme s.satp) start l e).in_ram, (modest s.scheme).some, long)
 
-    walk_byte : (v : Verdict) → plain_walk s start q ≡ v → Becomes (get_or ram k 0) (get_or (byte_marks q v ram) k 0) (page_at v k) (is_store q.kind && page_at v k)
+    walk_byte : (v : Result LeafAt Fault) → plain_walk s start q ≡ v → Becomes (get_or ram k 0) (get_or (byte_marks q v ram) k 0) (page_at v k) (is_store q.kind && page_at v k)
     unfolding byte_marks page_at
-    walk_byte (Page l) e = page_byte l (inside l e) (ℕ_discrete l.at k)
-    walk_byte (Fault why level) e = rw (and-false (is_store q.kind)) (stays _ _ refl)
+    walk_byte (Ok l) e = page_byte l (inside l e) (ℕ_discrete l.at k)
+    walk_byte (Err stop) e = rw (and-false (is_store q.kind)) (stays _ _ refl)
 
     earned_byte : Becomes (get_or ram k 0) (get_or (byte_earned s start q ram) k 0) (earns_a s start k q) (earns_d s start k q)
     unfolding byte_earned earns_a earns_d
@@ -78,10 +78,10 @@ module _ (s : Settings) (start : List ℕ) where
         go true = rw (and-false (is_store q.kind)) (stays _ _ refl)
         go false = walk_byte (plain_walk s start q) refl
 
-  marks_length : (q : Access) (v : Verdict) (ram : List ℕ) → length (byte_marks q v ram) ≡ length ram
+  marks_length : (q : Access) (v : Result LeafAt Fault) (ram : List ℕ) → length (byte_marks q v ram) ≡ length ram
   unfolding byte_marks
-  marks_length q (Page l) ram = length-set ram l.at _
-  marks_length q (Fault why level) ram = refl
+  marks_length q (Ok l) ram = length-set ram l.at _
+  marks_length q (Err stop) ram = refl
 
   earned_length : (q : Access) (ram : List ℕ) → length (byte_earned s start q ram) ≡ length ram
   unfolding byte_earned

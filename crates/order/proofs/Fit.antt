@@ -1,4 +1,5 @@
 -- Fitness is kept by every event, the settings stay, and nothing is refused but accesses with 10.
+use Rattle.std.specs.Prelude.{Ok}
 use Prim.Native.Nat.{ℕ, ◌≤◌}
 use mathlib.Core.Path.{◌≡◌, refl, sym, ap, subst, ◌∙◌}
 use mathlib.Core.Bool.{Bool, true, false, cond}
@@ -12,7 +13,6 @@ use Rattle.scheme.specs.declared.refusal.Refusal.TheVariants.{BadMode}
 use Rattle.scheme.proofs.Widths.{valid, not_sv39}
 use Rattle.walk.specs.declared.Access.{Access}
 use Rattle.walk.specs.declared.LeafAt.{LeafAt}
-use Rattle.walk.specs.declared.Verdict.TheVariants.{Page}
 use Rattle.tlb.specs.State.{tlb_fits, tlb_install, tlb_flush, tlb_flush_vaddr}
 use Rattle.tlb.specs.declared.Tlb.{Tlb}
 use Rattle.caches.specs.Terms.{SameScheme}
@@ -59,12 +59,12 @@ module _ (m : Mmu) (fit : fit_of m ≡ true) where
 
   module _ (q : Access) (ram : List ℕ) where
     -- a leaf of a valid scheme has a class that fits
-    class_fits : (l : LeafAt) → miss_walk m q ram ≡ Page l → (made_of m q l).mask_bits ≤ 19
+    class_fits : (l : LeafAt) → miss_walk m q ram ≡ Ok l → (made_of m q l).mask_bits ≤ 19
     unfolding made_of
     class_fits l e =
         omega (arith, shift_within m.scheme (root_of m.scheme m.satp.raw) ram q l e (fit_valid m fit), (valid m.scheme (fit_valid m fit)).offset_low)
 
-    sits_filled : (l : LeafAt) (t : Tlb) → miss_walk m q ram ≡ Page l → Sits m t → Sits m (filled m q l t)
+    sits_filled : (l : LeafAt) (t : Tlb) → miss_walk m q ram ≡ Ok l → Sits m t → Sits m (filled m q l t)
     sits_filled l t e s = go m.tlb_enabled
       where
         counted : Sits m (tallied 0 1 0 t)
@@ -82,21 +82,21 @@ module _ (m : Mmu) (fit : fit_of m ≡ true) where
     case_fit v ram' (Hits h t e k c p) = fit_with _ (sits_tallied m t 1 0 0 (consulted t c.same c.fits))
     case_fit v ram' (Forbids h t e k c p) = fit_with _ (sits_tallied m t 0 0 1 (consulted t c.same c.fits))
     case_fit v ram' (Leads h t k c l e) = fit_with _ (sits_filled l t e (consulted t c.same c.fits))
-    case_fit v ram' (Ends h t k c why level e) = fit_with _ (sits_tallied m t 0 1 1 (consulted t c.same c.fits))
+    case_fit v ram' (Ends h t k c stop e) = fit_with _ (sits_tallied m t 0 1 1 (consulted t c.same c.fits))
 
     case_settings : (v : Served) (ram' : List ℕ) → Case m q ram v ram' → settings_of v.mmu ≡ settings_of m
     case_settings v ram' (Passes h) = refl
     case_settings v ram' (Hits h t e k c p) = refl
     case_settings v ram' (Forbids h t e k c p) = refl
     case_settings v ram' (Leads h t k c l e) = refl
-    case_settings v ram' (Ends h t k c why level e) = refl
+    case_settings v ram' (Ends h t k c stop e) = refl
 
     case_granted : (v : Served) (ram' : List ℕ) → Case m q ram v ram' → (rest : List Refusal) → outcome_refusals v.said.outcome rest ≡ rest
     case_granted v ram' (Passes h) rest = refl
     case_granted v ram' (Hits h t e k c p) rest = refl
     case_granted v ram' (Forbids h t e k c p) rest = refl
     case_granted v ram' (Leads h t k c l e) rest = refl
-    case_granted v ram' (Ends h t k c why level e) rest = refl
+    case_granted v ram' (Ends h t k c stop e) rest = refl
 
     turn_fit : (v : Served) (ram' : List ℕ) → Turn m q ram v ram' → fit_of v.mmu ≡ true
     turn_fit v ram' (Refuses k) = fit
@@ -109,7 +109,7 @@ module _ (m : Mmu) (fit : fit_of m ≡ true) where
     turn_refused : (v : Served) (ram' : List ℕ) → Turn m q ram v ram' → mode_known m.scheme m.satp.raw ≡ false
         → (rest : List Refusal) → outcome_refusals v.said.outcome rest ≡ BadMode ∷ rest
     turn_refused v ram' (Refuses k) e rest = refl
-    turn_refused v ram' (Serves k u r c) e rest = let z : ◌≡◌ {A = ℕ} 0 1 = cc in absurd (omega arith)
+    turn_refused v ram' (Serves k u r c) e rest = absurd cc
 
   -- ---- an event
 
@@ -183,7 +183,7 @@ run_fit (e ∷ es) m ram fit = run_fit es (step_mmu e m ram) (step_ram e m ram) 
 
 -- document 01's schemes have no other
 pub mode_01 : (s : PagingScheme) (satp : ℕ) → bought_of s ≡ true → ModeGiven s satp
-mode_01 s satp b e = let n = not_sv39 s b in let z : ◌≡◌ {A = ℕ} 0 1 = cc in absurd (omega arith)
+mode_01 s satp b e = let n = not_sv39 s b in absurd cc
 
 pub mode_known_lem : (s : PagingScheme) (satp : ℕ) → ModeGiven s satp → mode_known s satp ≡ true
 mode_known_lem s satp g = go (is_sv39 s) refl

@@ -1,5 +1,7 @@
 -- What one access may do to a cache, whatever its size and policy: it passes by, is answered by an entry, or walks. Nothing here knows what
 -- a state is, but for what its valid entries say.
+use Rattle.std.specs.Prelude.{Err, Ok, Result}
+use Rattle.walk.specs.declared.Fault.{Fault}
 use Prim.Native.Nat.{ℕ, ◌+◌, ◌-◌, ◌*◌, ◌/◌, ◌^◌}
 use mathlib.Core.Path.{◌≡◌}
 use mathlib.Core.Bool.{true, false, not, cond, ◌&&◌}
@@ -12,8 +14,6 @@ use Rattle.walk.specs.Rights.{allows, open_to}
 use Rattle.walk.specs.Answer.{marked_by, physical_of}
 use Rattle.walk.specs.declared.Access.{Access}
 use Rattle.walk.specs.declared.LeafAt.{LeafAt}
-use Rattle.walk.specs.declared.Verdict.{Verdict}
-use Rattle.walk.specs.declared.Verdict.TheVariants.{Page, Fault}
 use Rattle.caches.specs.Terms.{Said}
 use Rattle.access.specs.Translate.{is_store}
 use Rattle.session.specs.declared.Settings.{Settings}
@@ -61,9 +61,9 @@ module _ (s : Settings) where
     Adds e t t' = (P : Said → Type 0) → P e → Holds P t → Holds P t'
 
     -- a walk leaves nothing new, or its leaf
-    abbrev pub Left : Access → Verdict → State → State → Type 1
-    Left q (Page l) t t' = Adds (made_by q l) t t'
-    Left q (Fault why level) t t' = Keeps t t'
+    abbrev pub Left : Access → Result LeafAt Fault → State → State → Type 1
+    Left q (Ok l) t t' = Adds (made_by q l) t t'
+    Left q (Err stop) t t' = Keeps t t'
 
     pub data Step (q : Access) (t : State) (ram : List ℕ) (t' : State) (ram' : List ℕ) (x : Heard) : Type 1 where
       Passes : passes s q ≡ true → Keeps t t' → ram' ≡ ram → x ≡ At q.vaddr → Step q t ram t' ram' x

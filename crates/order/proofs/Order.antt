@@ -7,7 +7,6 @@ use mathlib.Core.Logic.{∥∥₁_elim}
 use mathlib.Core.List.Perm
 use mathlib.Core.List.{List, [], ◌∷◌, map, Perm, Permᴰ, is_set}
 use native.Mathlib.Decide.{ℕ_discrete}
-use native.Mathlib.Omega.{arith}
 use Rattle.walk.specs.declared.Access.{Access}
 use Rattle.walks.specs.Plain.{Bytes}
 use Rattle.state.specs.State.{fit_of}
@@ -123,7 +122,7 @@ module _ (s : Settings) (start : List ℕ) where
       settings = h.settings;
       sound = record {
         steady = record { bytes = small; same = record { long = refl; words = λ a d. refl }; valid = subst (λ (x : Settings). valid_of x.scheme ≡ true) h.settings (fit_valid m h.fit) };
-        truth = λ i l v. let n = h.none i l in let z : ◌≡◌ {A = ℕ} 0 1 = cc in absurd (omega arith);
+        truth = λ i l v. let n = h.none i l in absurd cc;
       };
     }
 

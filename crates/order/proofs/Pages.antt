@@ -1,9 +1,11 @@
 -- Plain walks: what is heard and earned looks past A and D, and every access to a leaf's page comes to that leaf.
+use Rattle.std.specs.Prelude.{Err, Ok, Result}
+use Rattle.walk.specs.declared.Fault.{Fault}
+use Rattle.walker.specs.declared.LeafWord.{LeafWord}
 use Prim.Native.Nat.{ℕ, ◌/◌, ◌^◌, ◌≤◌, ◌<◌}
 use mathlib.Core.Path.{◌≡◌, refl, sym, ap, subst, ◌∙◌}
 use mathlib.Core.Bool.{Bool, true, false, not, cond, ◌&&◌}
 use mathlib.Core.List.{List}
-use native.Mathlib.Omega.{arith}
 use Rattle.pte.specs.Entry.{perms_of, ppn_of}
 use Rattle.scheme.specs.Access.{cause_of}
 use Rattle.scheme.specs.Scheme.{widths_of, valid_of, format_of}
@@ -14,14 +16,11 @@ use Rattle.walker.specs.Descent.{ended, descent_of}
 use Rattle.walker.specs.declared.Reason.{Reason}
 use Rattle.walker.specs.declared.Reason.TheVariants.{NoRight, Privilege}
 use Rattle.walker.specs.declared.Descent.{Descent}
-use Rattle.walker.specs.declared.End.{End}
 use Rattle.walk.specs.Rights.{allows, open_to}
 use Rattle.walk.specs.Answer.{marked_by, mark_in, physical_of}
 use Rattle.walk.specs.Verdict.{fault_if, leaf_judged, end_judged, judge_of, walk_of}
 use Rattle.walk.specs.declared.Access.{Access}
 use Rattle.walk.specs.declared.LeafAt.{LeafAt}
-use Rattle.walk.specs.declared.Verdict.{Verdict}
-use Rattle.walk.specs.declared.Verdict.TheVariants.{Page, Fault}
 use Rattle.walk.proofs.Judged.{leaf_read}
 use Rattle.walks.specs.Plain.{plain, plain_verdict, Bytes}
 use Rattle.walks.proofs.Steady.{plain_plain, ppn_same, Same, descent_same}
@@ -35,45 +34,45 @@ use Rattle.order.proofs.Marks.{byte_marked, byte_comm, byte_again, byte_bytes, w
 
 -- ---- the marks of a verdict, on a byte
 
-unfoldable pub byte_marks : Access → Verdict → List ℕ → List ℕ
-byte_marks q (Page l) ram = byte_marked q.kind l.at ram
-byte_marks q (Fault why level) ram = ram
+unfoldable pub byte_marks : Access → Result LeafAt Fault → List ℕ → List ℕ
+byte_marks q (Ok l) ram = byte_marked q.kind l.at ram
+byte_marks q (Err stop) ram = ram
 
-pub marks_byte : (f : Format) → 0 < f.bytes → (q : Access) (v : Verdict) (ram : List ℕ) → Bytes ram → verdict_marks f q v ram ≡ byte_marks q v ram
+pub marks_byte : (f : Format) → 0 < f.bytes → (q : Access) (v : Result LeafAt Fault) (ram : List ℕ) → Bytes ram → verdict_marks f q v ram ≡ byte_marks q v ram
 unfolding verdict_marks byte_marks
-marks_byte f some q (Page l) ram small = word_byte q.kind ram l.at small f some
-marks_byte f some q (Fault why level) ram small = refl
+marks_byte f some q (Ok l) ram small = word_byte q.kind ram l.at small f some
+marks_byte f some q (Err stop) ram small = refl
 
-pub marks_comm : (q p : Access) (v w : Verdict) (ram : List ℕ) → byte_marks q v (byte_marks p w ram) ≡ byte_marks p w (byte_marks q v ram)
+pub marks_comm : (q p : Access) (v w : Result LeafAt Fault) (ram : List ℕ) → byte_marks q v (byte_marks p w ram) ≡ byte_marks p w (byte_marks q v ram)
 unfolding byte_marks
-marks_comm q p (Fault x y) w ram = refl
-marks_comm q p (Page l) (Fault x y) ram = refl
-marks_comm q p (Page l) (Page n) ram = byte_comm q.kind p.kind l.at n.at ram
+marks_comm q p (Err stop) w ram = refl
+marks_comm q p (Ok l) (Err stop) ram = refl
+marks_comm q p (Ok l) (Ok n) ram = byte_comm q.kind p.kind l.at n.at ram
 
-pub marks_bytes : (q : Access) (v : Verdict) (ram : List ℕ) → Bytes ram → Bytes (byte_marks q v ram)
+pub marks_bytes : (q : Access) (v : Result LeafAt Fault) (ram : List ℕ) → Bytes ram → Bytes (byte_marks q v ram)
 unfolding byte_marks
-marks_bytes q (Page l) ram small = byte_bytes q.kind l.at ram small
-marks_bytes q (Fault why level) ram small = small
+marks_bytes q (Ok l) ram small = byte_bytes q.kind l.at ram small
+marks_bytes q (Err stop) ram small = small
 
 -- ---- A and D are not looked at
 
 module _ (q : Access) where
-  heard_plain : (f : Format) (v : Verdict) → verdict_heard f q v ≡ verdict_heard f q (plain_verdict v)
+  heard_plain : (f : Format) (v : Result LeafAt Fault) → verdict_heard f q v ≡ verdict_heard f q (plain_verdict v)
   unfolding verdict_heard plain_verdict
-  heard_plain f (Page l) = ap (λ (n : ℕ). At (physical_of f n l.shift q.vaddr)) (ppn_same l.raw (plain l.raw) (sym (plain_plain l.raw)))
-  heard_plain f (Fault why level) = refl
+  heard_plain f (Ok l) = ap (λ (n : ℕ). At (physical_of f n l.shift q.vaddr)) (ppn_same l.raw (plain l.raw) (sym (plain_plain l.raw)))
+  heard_plain f (Err stop) = refl
 
-  marks_plain : (v : Verdict) (ram : List ℕ) → byte_marks q v ram ≡ byte_marks q (plain_verdict v) ram
+  marks_plain : (v : Result LeafAt Fault) (ram : List ℕ) → byte_marks q v ram ≡ byte_marks q (plain_verdict v) ram
   unfolding byte_marks plain_verdict
-  marks_plain (Page l) ram = refl
-  marks_plain (Fault why level) ram = refl
+  marks_plain (Ok l) ram = refl
+  marks_plain (Err stop) ram = refl
 
-  module _ (v w : Verdict) (e : plain_verdict v ≡ plain_verdict w) where
+  module _ (v w : Result LeafAt Fault) (e : plain_verdict v ≡ plain_verdict w) where
     pub heard_same : (f : Format) → verdict_heard f q v ≡ verdict_heard f q w
     heard_same f = heard_plain f v ∙ ap (verdict_heard f q) e ∙ sym (heard_plain f w)
 
     pub marks_same : (ram : List ℕ) → byte_marks q v ram ≡ byte_marks q w ram
-    marks_same ram = marks_plain v ram ∙ ap (λ (x : Verdict). byte_marks q x ram) e ∙ sym (marks_plain w ram)
+    marks_same ram = marks_plain v ram ∙ ap (λ (x : Result LeafAt Fault). byte_marks q x ram) e ∙ sym (marks_plain w ram)
 
 -- ---- walks over RAM
 
@@ -89,9 +88,9 @@ module _ (s : PagingScheme) (root : ℕ) where
   unfolding byte_marks
   walk_marks ram q small = go (walk_of s root ram q) refl
     where
-      go : (v : Verdict) → walk_of s root ram q ≡ v → marked_by (format_of s) q.kind ram v ≡ byte_marks q v ram
-      go (Fault why level) e = refl
-      go (Page l) e =
+      go : (v : Result LeafAt Fault) → walk_of s root ram q ≡ v → marked_by (format_of s) q.kind ram v ≡ byte_marks q v ram
+      go (Err stop) e = refl
+      go (Ok l) e =
           ap (mark_in (format_of s) q.kind ram l.at) (sym (leaf_read q s root ram l e).word)
           ∙ word_byte q.kind ram l.at small (format_of s) (modest s).some
 
@@ -99,7 +98,7 @@ module _ (s : PagingScheme) (root : ℕ) where
 
 module _ (q : Access) (l : LeafAt) where
   judged_heard : (f : Format) (x y : Bool) →
-      verdict_heard f q (fault_if (not x) NoRight l.level (fault_if (not y) Privilege l.level (Page l)))
+      verdict_heard f q (fault_if (not x) NoRight l.level (fault_if (not y) Privilege l.level (Ok l)))
       ≡ cond (x && y) (At (physical_of f (ppn_of l.raw) l.shift q.vaddr)) (Faults (cause_of q.kind) q.vaddr)
   unfolding verdict_heard fault_if
   judged_heard f true true = refl
@@ -114,36 +113,36 @@ module _ (q : Access) (l : LeafAt) where
 
   module _ (p : Access) (ram : List ℕ) (h : is_store q.kind && not (is_store p.kind) ≡ false) where
     judged_rests : (x y : Bool) →
-        byte_marks q (fault_if (not x) NoRight l.level (fault_if (not y) Privilege l.level (Page l))) (byte_marks p (Page l) ram) ≡ byte_marks p (Page l) ram
+        byte_marks q (fault_if (not x) NoRight l.level (fault_if (not y) Privilege l.level (Ok l))) (byte_marks p (Ok l) ram) ≡ byte_marks p (Ok l) ram
     unfolding byte_marks fault_if
     judged_rests true true = byte_again q.kind p.kind l.at ram h
     judged_rests true false = refl
     judged_rests false y = refl
 
     -- an access that needs no more than p earns nothing more at p's leaf
-    pub leaf_rests : byte_marks q (leaf_judged q l) (byte_marks p (Page l) ram) ≡ byte_marks p (Page l) ram
+    pub leaf_rests : byte_marks q (leaf_judged q l) (byte_marks p (Ok l) ram) ≡ byte_marks p (Ok l) ram
     unfolding leaf_judged
     leaf_rests = judged_rests (allows q.kind (perms_of l.raw)) (open_to q.mode (perms_of l.raw))
 
-passed : (b : Bool) (why : Reason) (level : ℕ) (v : Verdict) (l : LeafAt) → fault_if b why level v ≡ Page l → v ≡ Page l
+passed : (b : Bool) (why : Reason) (level : ℕ) (v : Result LeafAt Fault) (l : LeafAt) → fault_if b why level v ≡ Ok l → v ≡ Ok l
 unfolding fault_if
 passed false why level v l e = e
-passed true why level v l e = let z : ◌≡◌ {A = ℕ} 0 1 = cc in absurd (omega arith)
+passed true why level v l e = absurd cc
 
-leaf_page : (q : Access) (l n : LeafAt) → leaf_judged q l ≡ Page n → l ≡ n
+leaf_page : (q : Access) (l n : LeafAt) → leaf_judged q l ≡ Ok n → l ≡ n
 unfolding leaf_judged
-leaf_page q l n h = let e : Page l ≡ Page n = passed _ _ _ _ n (passed _ _ _ _ n h) in cc
+leaf_page q l n h = let e : Ok l ≡ Ok n = passed _ _ _ _ n (passed _ _ _ _ n h) in cc
 
 -- an accepted leaf is where the descent ended
-end_leaf : (q : Access) (shift level : ℕ) (e : End) (l : LeafAt) → end_judged q shift level e ≡ Page l
-    → ended e shift level ≡ ended (End.Page l.raw l.at) l.shift l.level
-end_leaf q shift level (End.Stop why) l h = let z : ◌≡◌ {A = ℕ} 0 1 = cc in absurd (omega arith)
-end_leaf q shift level (End.Page w a) l h = ap (λ (x : LeafAt). ended (End.Page x.raw x.at) x.shift x.level) (leaf_page q _ l h)
+end_leaf : (q : Access) (shift level : ℕ) (e : Result LeafWord Reason) (l : LeafAt) → end_judged q shift level e ≡ Ok l
+    → ended e shift level ≡ ended (Ok (record { raw = l.raw; at = l.at })) l.shift l.level
+end_leaf q shift level (Err why) l h = absurd cc
+end_leaf q shift level (Ok leaf) l h = ap (λ (x : LeafAt). ended (Ok (record { raw = x.raw; at = x.at })) x.shift x.level) (leaf_page q _ l h)
 
 -- ---- the page of a leaf
 
-module _ (s : PagingScheme) (root : ℕ) (ram : List ℕ) (p : Access) (l : LeafAt) (met : walk_of s root ram p ≡ Page l) where
-  down : descent_of ram root s p.vaddr ≡ ended (End.Page l.raw l.at) l.shift l.level
+module _ (s : PagingScheme) (root : ℕ) (ram : List ℕ) (p : Access) (l : LeafAt) (met : walk_of s root ram p ≡ Ok l) where
+  down : descent_of ram root s p.vaddr ≡ ended (Ok (record { raw = l.raw; at = l.at })) l.shift l.level
   unfolding judge_of
   down = end_leaf p _ _ (descent_of ram root s p.vaddr).end l met
 

@@ -1,29 +1,23 @@
 -- The cases of `translate` on a fit state: the access passes by, or the TLB is consulted and decides it or not; with all that the rest of
 -- the proofs needs of the TLB then.
+use Rattle.std.specs.Prelude.{Err, None, Ok, Option, Result, Some}
+use Rattle.walk.specs.declared.Fault.{Fault}
 use Prim.Native.Nat.{ℕ, ◌+◌}
 use mathlib.Core.Path.{◌≡◌, refl, sym, subst}
 use mathlib.Core.Bool.{Bool, true, false, cond}
 use mathlib.Core.List.{List}
-use native.Mathlib.Omega.{arith}
 use Rattle.pte.specs.Entry.{ppn_of}
 use Rattle.scheme.specs.Satp.{asid_of}
 use Rattle.scheme.specs.Scheme.{valid_of, format_of}
 use Rattle.scheme.specs.declared.refusal.Refusal.TheVariants.{BadMode}
 use Rattle.bits.proofs.Bools.{and_left, and_right}
-use Rattle.walker.specs.declared.Reason.{Reason}
 use Rattle.walk.specs.Answer.{marked_by, physical_of, words_of}
 use Rattle.walk.specs.declared.Access.{Access}
 use Rattle.walk.specs.declared.LeafAt.{LeafAt}
-use Rattle.walk.specs.declared.Verdict.{Verdict}
-use Rattle.walk.specs.declared.Verdict.TheVariants.{Page, Fault}
 use Rattle.entry.specs.declared.TlbEntry.{TlbEntry}
-use Rattle.slots.specs.declared.Slot.{Slot}
-use Rattle.slots.specs.declared.Slot.TheVariants.{At, Nothing}
 use Rattle.tlb.specs.Cache.{Cache, Shape, on_slot, touch_at, find_from, probe_in}
 use Rattle.tlb.specs.State.{shape_of, cache_of, tlb_probe, tlb_install, tlb_fits}
 use Rattle.tlb.specs.declared.Tlb.{Tlb}
-use Rattle.tlb.specs.declared.Lookup.{Lookup}
-use Rattle.tlb.specs.declared.Lookup.TheVariants.{Found, Absent}
 use Rattle.tlb.proofs.Fitness.{tlb_fit}
 use Rattle.caches.specs.Terms.{Said, Holds, SameScheme, EntryOf}
 use Rattle.caches.proofs.Claims.{probe_fits, probe_same, probe_finds, probe_holds}
@@ -54,27 +48,27 @@ module _ (m : Mmu) (fit : fit_of m ≡ true) where
 -- ---- the TLB, consulted
 
 -- the TLB after it was asked, and what it said
-pub record Consults (m : Mmu) (q : Access) (t : Tlb) (k : Lookup) : Type 1 where
+pub record Consults (m : Mmu) (q : Access) (t : Tlb) (k : Option TlbEntry) : Type 1 where
   pub same : SameScheme m.tlb t
   pub evictions : t.stats.evictions ≡ m.tlb.stats.evictions
   pub fits : tlb_fits t ≡ true
   pub keeps : (P : Said → Type 0) → Holds P m.tlb → Holds P t
-  pub found : (e : TlbEntry) → k ≡ Found e → EntryOf m.tlb (vpn_of m q) (asid_of m.scheme m.satp.raw) e × (must_walk e q ≡ false)
+  pub found : (e : TlbEntry) → k ≡ Some e → EntryOf m.tlb (vpn_of m q) (asid_of m.scheme m.satp.raw) e × (must_walk e q ≡ false)
 
 -- an entry that decides was found, and need not walk
-decided : (q : Access) (k : Lookup) (e : TlbEntry) → decides q k ≡ Found e → (k ≡ Found e) × (must_walk e q ≡ false)
-decided q Absent e h = let z : ◌≡◌ {A = ℕ} 0 1 = cc in absurd (omega arith)
-decided q (Found x) e h = go (must_walk x q) refl h
+decided : (q : Access) (k : Option TlbEntry) (e : TlbEntry) → decides q k ≡ Some e → (k ≡ Some e) × (must_walk e q ≡ false)
+decided q None e h = absurd cc
+decided q (Some x) e h = go (must_walk x q) refl h
   where
-    go : (b : Bool) → must_walk x q ≡ b → cond b Absent (Found x) ≡ Found e → (Found x ≡ Found e) × (must_walk e q ≡ false)
-    go true w k = let z : ◌≡◌ {A = ℕ} 0 1 = cc in absurd (omega arith)
+    go : (b : Bool) → must_walk x q ≡ b → cond b None (Some x) ≡ Some e → (Some x ≡ Some e) × (must_walk e q ≡ false)
+    go true w k = absurd cc
     go false w k = let y : x ≡ e = cc in (k, rw y at w)
 
 -- a probe evicts nothing
-slot_evicts : (s : Slot) (sh : Shape) (c : Cache) → (on_slot s (λ i. touch_at sh.policy i c) (record { lookup = Absent; cache = c })).cache.evictions ≡ c.evictions
+slot_evicts : (s : Option ℕ) (sh : Shape) (c : Cache) → (on_slot s (λ i. touch_at sh.policy i c) (record { lookup = None; cache = c })).cache.evictions ≡ c.evictions
 unfolding touch_at
-slot_evicts (At i) sh c = refl
-slot_evicts Nothing sh c = refl
+slot_evicts (Some i) sh c = refl
+slot_evicts None sh c = refl
 
 probe_evicts : (t : Tlb) (vpn asid : ℕ) → (tlb_probe t vpn asid).tlb.stats.evictions ≡ t.stats.evictions
 unfolding tlb_probe probe_in
@@ -95,7 +89,7 @@ module _ (m : Mmu) (q : Access) (fit : fit_of m ≡ true) where
         (probe_finds m.tlb (vpn_of m q) asid e (tlb_fit m.tlb (tlb_fits_lem m fit)).geo d.0, d.1);
   }
 
-  unprobed : Consults m q m.tlb Absent
+  unprobed : Consults m q m.tlb None
   unprobed = record {
     same = record {
       frame = record { config = refl; count = refl; sets = refl; slots = refl; hands = refl };
@@ -109,18 +103,18 @@ module _ (m : Mmu) (q : Access) (fit : fit_of m ≡ true) where
     evictions = refl;
     fits = tlb_fits_lem m fit;
     keeps = λ P h. h;
-    found = λ e h. let z : ◌≡◌ {A = ℕ} 0 1 = cc in absurd (omega arith);
+    found = λ e h. absurd cc;
   }
 
 -- ---- the cases
 
 taken : {A : Type 0} (b : Bool) (x y : A) → b ≡ true → cond b x y ≡ x
 taken true x y e = refl
-taken false x y e = let z : ◌≡◌ {A = ℕ} 0 1 = cc in absurd (omega arith)
+taken false x y e = absurd cc
 
 left_out : {A : Type 0} (b : Bool) (x y : A) → b ≡ false → cond b x y ≡ y
 left_out false x y e = refl
-left_out true x y e = let z : ◌≡◌ {A = ℕ} 0 1 = cc in absurd (omega arith)
+left_out true x y e = absurd cc
 
 -- the state with a TLB and tallies given
 abbrev pub counted_in : Mmu → ℕ → ℕ → ℕ → Tlb → Mmu
@@ -143,32 +137,32 @@ module _ (m : Mmu) (q : Access) (t : Tlb) where
 
   abbrev pub led : LeafAt → Served
   led l = record {
-    said = ok_at (words_of (format_of m.scheme) q.vaddr (Page l)) (physical_of (format_of m.scheme) (ppn_of l.raw) l.shift q.vaddr) t.config.miss_penalty;
+    said = ok_at (words_of (format_of m.scheme) q.vaddr (Ok l)) (physical_of (format_of m.scheme) (ppn_of l.raw) l.shift q.vaddr) t.config.miss_penalty;
     mmu = with_tlb m (filled m q l t);
   }
 
-  abbrev pub stopped : Reason → ℕ → Served
-  stopped why level = record { said = fault_of (words_of (format_of m.scheme) q.vaddr (Fault why level)) q; mmu = counted_in m 0 1 1 t }
+  abbrev pub stopped : Fault → Served
+  stopped stop = record { said = fault_of (words_of (format_of m.scheme) q.vaddr (Err stop)) q; mmu = counted_in m 0 1 1 t }
 
 pub data Case (m : Mmu) (q : Access) (ram : List ℕ) : Served → List ℕ → Type 1 where
   Passes : bypassed m q ≡ true → Case m q ram (passed_of m q) ram
   -- an entry decides the access, and permits or forbids it
-  Hits : bypassed m q ≡ false → (t : Tlb) (e : TlbEntry) → consult_of m q ≡ record { lookup = Found e; mmu = with_tlb m t } → Consults m q t (Found e)
+  Hits : bypassed m q ≡ false → (t : Tlb) (e : TlbEntry) → consult_of m q ≡ record { lookup = Some e; mmu = with_tlb m t } → Consults m q t (Some e)
       → entry_permits e q ≡ true
       → Case m q ram (hit m q t e) ram
-  Forbids : bypassed m q ≡ false → (t : Tlb) (e : TlbEntry) → consult_of m q ≡ record { lookup = Found e; mmu = with_tlb m t } → Consults m q t (Found e)
+  Forbids : bypassed m q ≡ false → (t : Tlb) (e : TlbEntry) → consult_of m q ≡ record { lookup = Some e; mmu = with_tlb m t } → Consults m q t (Some e)
       → entry_permits e q ≡ false → Case m q ram (forbidden m q t) ram
   -- no entry decides it, and the walk comes to a leaf or faults
-  Leads : bypassed m q ≡ false → (t : Tlb) → consult_of m q ≡ record { lookup = Absent; mmu = with_tlb m t } → Consults m q t Absent
-      → (l : LeafAt) → miss_walk m q ram ≡ Page l
-      → Case m q ram (led m q t l) (marked_by (format_of m.scheme) q.kind ram (Page l))
-  Ends : bypassed m q ≡ false → (t : Tlb) → consult_of m q ≡ record { lookup = Absent; mmu = with_tlb m t } → Consults m q t Absent
-      → (why : Reason) (level : ℕ) → miss_walk m q ram ≡ Fault why level
-      → Case m q ram (stopped m q t why level) ram
+  Leads : bypassed m q ≡ false → (t : Tlb) → consult_of m q ≡ record { lookup = None; mmu = with_tlb m t } → Consults m q t None
+      → (l : LeafAt) → miss_walk m q ram ≡ Ok l
+      → Case m q ram (led m q t l) (marked_by (format_of m.scheme) q.kind ram (Ok l))
+  Ends : bypassed m q ≡ false → (t : Tlb) → consult_of m q ≡ record { lookup = None; mmu = with_tlb m t } → Consults m q t None
+      → (stop : Fault) → miss_walk m q ram ≡ Err stop
+      → Case m q ram (stopped m q t stop) ram
 
 module _ (m : Mmu) (q : Access) (ram : List ℕ) (fit : fit_of m ≡ true) where
   module _ (on : bypassed m q ≡ false) where
-    found : (t : Tlb) (e : TlbEntry) → consult_of m q ≡ record { lookup = Found e; mmu = with_tlb m t } → Consults m q t (Found e)
+    found : (t : Tlb) (e : TlbEntry) → consult_of m q ≡ record { lookup = Some e; mmu = with_tlb m t } → Consults m q t (Some e)
         → Case m q ram (found_served (with_tlb m t) e q) ram
     unfolding found_served
     found t e h c = go (entry_permits e q) refl
@@ -177,18 +171,18 @@ module _ (m : Mmu) (q : Access) (ram : List ℕ) (fit : fit_of m ≡ true) where
         go true p = Hits on t e h c p
         go false p = Forbids on t e h c p
 
-    walked : (t : Tlb) → consult_of m q ≡ record { lookup = Absent; mmu = with_tlb m t } → Consults m q t Absent
-        → (v : Verdict) → miss_walk m q ram ≡ v → Case m q ram (walk_served (with_tlb m t) q v) (marked_by (format_of m.scheme) q.kind ram v)
+    walked : (t : Tlb) → consult_of m q ≡ record { lookup = None; mmu = with_tlb m t } → Consults m q t None
+        → (v : Result LeafAt Fault) → miss_walk m q ram ≡ v → Case m q ram (walk_served (with_tlb m t) q v) (marked_by (format_of m.scheme) q.kind ram v)
     unfolding walk_served made_of
-    walked t h c (Page l) e = Leads on t h c l e
-    walked t h c (Fault why level) e = Ends on t h c why level e
+    walked t h c (Ok l) e = Leads on t h c l e
+    walked t h c (Err stop) e = Ends on t h c stop e
 
-    by_lookup : (t : Tlb) (k : Lookup) → consult_of m q ≡ record { lookup = k; mmu = with_tlb m t } → Consults m q t k
+    by_lookup : (t : Tlb) (k : Option TlbEntry) → consult_of m q ≡ record { lookup = k; mmu = with_tlb m t } → Consults m q t k
         → Case m q ram (look_served (with_tlb m t) q ram k) (look_ram (with_tlb m t) q ram k)
-    by_lookup t (Found e) h c = found t e h c
-    by_lookup t Absent h c = walked t h c (miss_walk m q ram) refl
+    by_lookup t (Some e) h c = found t e h c
+    by_lookup t None h c = walked t h c (miss_walk m q ram) refl
 
-    by_consult : (t : Tlb) (k : Lookup) → consult_of m q ≡ record { lookup = k; mmu = with_tlb m t } → Consults m q t k
+    by_consult : (t : Tlb) (k : Option TlbEntry) → consult_of m q ≡ record { lookup = k; mmu = with_tlb m t } → Consults m q t k
         → Case m q ram (look_served (consult_of m q).mmu q ram (consult_of m q).lookup) (look_ram (consult_of m q).mmu q ram (consult_of m q).lookup)
     by_consult t k h c =
         subst (λ (x : Consulted). Case m q ram (look_served x.mmu q ram x.lookup) (look_ram x.mmu q ram x.lookup)) (sym h) (by_lookup t k h c)
@@ -197,7 +191,7 @@ module _ (m : Mmu) (q : Access) (ram : List ℕ) (fit : fit_of m ≡ true) where
         → Case m q ram (look_served (consult_of m q).mmu q ram (consult_of m q).lookup) (look_ram (consult_of m q).mmu q ram (consult_of m q).lookup)
     unfolding consult_of
     looked true e = by_consult _ _ (taken m.tlb_enabled _ _ e) (probed m q fit)
-    looked false e = by_consult m.tlb Absent (left_out m.tlb_enabled _ _ e) (unprobed m q fit)
+    looked false e = by_consult m.tlb None (left_out m.tlb_enabled _ _ e) (unprobed m q fit)
 
   served : (b : Bool) → bypassed m q ≡ b → Case m q ram (served_of m q ram) (served_ram m q ram)
   unfolding served_of served_ram

@@ -1,5 +1,7 @@
 -- The MMU is such a machine: each event does to the TLB's valid entries, to RAM and to the answer what Machine.antt allows. No geometry, no
 -- policy and no tally is looked at.
+use Rattle.std.specs.Prelude.{Result, Some}
+use Rattle.walk.specs.declared.Fault.{Fault}
 use Prim.Native.Nat.{ℕ, ◌≤◌}
 use mathlib.Core.Path.{◌≡◌, refl, sym, ap, subst, ◌∙◌}
 use mathlib.Core.Bool.{Bool, true, false, cond, ◌&&◌, ◌||◌}
@@ -14,17 +16,15 @@ use Rattle.scheme.specs.Scheme.{total, valid_of, widths_of, classes, padded, for
 use Rattle.scheme.specs.declared.PagingScheme.{PagingScheme}
 use Rattle.bits.proofs.Bools.{and_right}
 use Rattle.scheme.proofs.Widths.{valid}
-use Rattle.scheme.proofs.Classes.{length_classes, sv32_valid, sv32_masks}
+use Rattle.scheme.proofs.Classes.{length_classes, sv32_valid}
 use Rattle.walk.specs.Answer.{marked_by}
 use Rattle.walk.specs.declared.Access.{Access}
 use Rattle.walk.specs.declared.LeafAt.{LeafAt}
-use Rattle.walk.specs.declared.Verdict.{Verdict}
 use Rattle.entry.specs.Entry.{matches_of}
 use Rattle.entry.specs.declared.TlbEntry.{TlbEntry}
 use Rattle.entry.specs.declared.TlbConfig.{TlbConfig}
 use Rattle.tlb.specs.State.{tlb_new, tlb_set_scheme, tlb_install, tlb_fits}
 use Rattle.tlb.specs.declared.Tlb.{Tlb}
-use Rattle.tlb.specs.declared.Lookup.TheVariants.{Found}
 use Rattle.caches.specs.Terms.{Said, said_by, Holds, EntryOf}
 use Rattle.caches.proofs.Claims.{new_fits, scheme_fits, new_holds, scheme_holds, install_holds, flush_holds, flush_vaddr_holds}
 use Rattle.state.specs.State.{with_tlb, state_new, with_scheme, alike, fit_of}
@@ -64,7 +64,7 @@ alike_self (x ∷ xs) = rw (eq-eqb x x refl) (alike_self xs)
 -- a new state is fit, if its entries have room
 pub new_fit : (config : TlbConfig) → room_for config ≡ true → fit_of (state_new config) ≡ true
 unfolding fit_of state_new tlb_new classes total alike
-new_fit config room = rw (new_fits config (leb-true _ 128 room), sv32_valid, sv32_masks)
+new_fit config room = rw (new_fits config (leb-true _ 128 room), sv32_valid)
 
 -- and a fit state stays so under another scheme
 pub adopted_fit : (m : Mmu) (s : PagingScheme) → valid_of s ≡ true → length s.level_bits ≡ 4 → tlb_fits m.tlb ≡ true → fit_of (with_scheme m s) ≡ true
@@ -103,7 +103,7 @@ module _ (s : Settings) (config : TlbConfig) (r : Ready s) (room : room_for conf
 -- ---- an access
 
 module _ (m : Mmu) (q : Access) (ram : List ℕ) where
-  module _ (t : Tlb) (e : TlbEntry) (c : Consults m q t (Found e)) where
+  module _ (t : Tlb) (e : TlbEntry) (c : Consults m q t (Some e)) where
     entry : EntryOf m.tlb (vpn_of m q) (asid_of m.scheme m.satp.raw) e
     entry = (c.found e refl).0
 
@@ -133,12 +133,12 @@ module _ (m : Mmu) (q : Access) (ram : List ℕ) where
       machine.Finds h (said_by e) (entry_holds t e c) (entry_decides t e c) (λ P w. holds_tallied P 0 0 1 t (c.keeps P w)) refl (rw p)
   case_steps v ram' (Leads h t k c l e) =
       machine.Walks h
-      (subst (λ (x : Verdict). Left (settings_of m) HoldsIn q x m (with_tlb m (filled m q l t))) (sym e) (λ P p w. filled_holds P l t p (c.keeps P w)))
+      (subst (λ (x : Result LeafAt Fault). Left (settings_of m) HoldsIn q x m (with_tlb m (filled m q l t))) (sym e) (λ P p w. filled_holds P l t p (c.keeps P w)))
       (ap (marked_by (format_of m.scheme) q.kind ram) (sym e))
       (ap (verdict_heard (format_of m.scheme) q) (sym e))
-  case_steps v ram' (Ends h t k c why level e) =
+  case_steps v ram' (Ends h t k c stop e) =
       machine.Walks h
-      (subst (λ (x : Verdict). Left (settings_of m) HoldsIn q x m (counted_in m 0 1 1 t)) (sym e) (λ P w. holds_tallied P 0 1 1 t (c.keeps P w)))
+      (subst (λ (x : Result LeafAt Fault). Left (settings_of m) HoldsIn q x m (counted_in m 0 1 1 t)) (sym e) (λ P w. holds_tallied P 0 1 1 t (c.keeps P w)))
       (ap (marked_by (format_of m.scheme) q.kind ram) (sym e))
       (ap (verdict_heard (format_of m.scheme) q) (sym e))
 

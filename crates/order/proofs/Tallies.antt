@@ -1,4 +1,5 @@
 -- The tallies along a run: each access adds to them what specs/Tallies.antt counts, mod 2^64.
+use Rattle.std.specs.Prelude.{None, Option, Some, is_none, is_err}
 use Prim.Native.Nat.{ℕ, ◌+◌, ◌%◌, ◌^◌}
 use mathlib.Core.Path.{◌≡◌, refl, sym, ap, subst, ◌∙◌}
 use mathlib.Core.Bool.{Bool, true, false, cond, ◌&&◌, and-false}
@@ -12,13 +13,9 @@ use Rattle.entry.specs.declared.TlbEntry.{TlbEntry}
 use Rattle.tlb.specs.declared.TlbStats.{TlbStats}
 use Rattle.entry.specs.declared.ReplacementPolicy.{ReplacementPolicy}
 use Rattle.slots.specs.Slots.{wanted_of, first_in, quiet_in}
-use Rattle.slots.specs.declared.Slot.{Slot}
-use Rattle.slots.specs.declared.Slot.TheVariants.{At, Nothing}
 use Rattle.tlb.specs.Cache.{Cache, store_at, evicted, clock_in, victim_in, on_slot, replace_in, install_new, set_of, start_of, slot_of, install_in, flush_in, flush_page_in}
 use Rattle.tlb.specs.State.{ways_of, shape_of, cache_of, tlb_install, tlb_flush, tlb_flush_page, tlb_flush_vaddr}
 use Rattle.tlb.specs.declared.Tlb.{Tlb}
-use Rattle.tlb.specs.declared.Lookup.{Lookup}
-use Rattle.tlb.specs.declared.Lookup.TheVariants.{Found, Absent}
 use Rattle.state.specs.State.{with_tlb, fit_of}
 use Rattle.mmu.specs.Calls.{mode_known}
 use Rattle.access.specs.Translate.{bypassed, tallied, consult_of, made_of, miss_walk}
@@ -28,7 +25,7 @@ use Rattle.access.specs.declared.Served.{Served}
 use Rattle.session.specs.Session.{step_mmu, step_ram, end_mmu}
 use Rattle.session.specs.declared.Event.{Event}
 use Rattle.session.specs.declared.Event.TheVariants.{Translate, Flush, FlushAt}
-use Rattle.order.specs.Tallies.{count_of, translated, permits, found_hit, forbids, found_fault, is_absent, walks, is_fault, walk_fault, is_nothing, takes_victim, leaf_victim, evicts}
+use Rattle.order.specs.Tallies.{count_of, translated, permits, found_hit, forbids, found_fault, walks, walk_fault, takes_victim, leaf_victim, evicts}
 use Rattle.order.specs.Claims.{Wraps, TalliesAddUp}
 use Rattle.order.proofs.Serves.{Consults, filled, Case, Passes, Hits, Forbids, Leads, Ends, Turn, Refuses, Serves, translate_turn}
 use Rattle.order.proofs.Fit.{flushed, flushed_at, event_fit}
@@ -100,25 +97,25 @@ module _ (t : Tlb) (e : TlbEntry) where
   abbrev policy : ReplacementPolicy
   policy = t.config.replacement
 
-  new_evicts : (k : Slot) → Wraps
+  new_evicts : (k : Option ℕ) → Wraps
       (on_slot k (λ i. store_at policy i e (cache_of t)) (replace_in policy group first (ways_of t) e (cache_of t))).evictions
-      (t.stats.evictions + one (is_nothing k))
+      (t.stats.evictions + one (is_none k))
   unfolding replace_in store_at evicted
-  new_evicts (At i) = wraps_none t.stats.evictions
-  new_evicts Nothing = rw (victim_evicts policy group first (ways_of t) (cache_of t)) (wraps_mod (t.stats.evictions + 1))
+  new_evicts (Some i) = wraps_none t.stats.evictions
+  new_evicts None = rw (victim_evicts policy group first (ways_of t) (cache_of t)) (wraps_mod (t.stats.evictions + 1))
 
   install_evicts : Wraps (tlb_install t e).stats.evictions (t.stats.evictions + one (takes_victim t e))
   unfolding tlb_install install_in install_new store_at takes_victim
   install_evicts = go (slot_of (shape_of t) e.vpn e.asid t.entries e.mask_bits)
     where
-      free : Slot
+      free : Option ℕ
       free = first_in (wanted_of true 0 0) t.entries first (first + ways_of t)
 
-      go : (k : Slot) → Wraps
+      go : (k : Option ℕ) → Wraps
           (on_slot k (λ i. store_at policy i e (cache_of t)) (install_new policy group first (ways_of t) e (cache_of t))).evictions
-          (t.stats.evictions + one (is_nothing k && is_nothing free))
-      go (At i) = wraps_none t.stats.evictions
-      go Nothing = new_evicts free
+          (t.stats.evictions + one (is_none k && is_none free))
+      go (Some i) = wraps_none t.stats.evictions
+      go None = new_evicts free
 
 -- ---- an access
 
@@ -164,18 +161,18 @@ module _ (m : Mmu) (q : Access) (ram : List ℕ) (fit : fit_of m ≡ true) where
       })
 
   -- by what the TLB said
-  consulted : mode_known m.scheme m.satp.raw ≡ true → (st : TlbStats) (t : Tlb) (k : Lookup) → bypassed m q ≡ false → consult_of m q ≡ record { lookup = k; mmu = with_tlb m t }
-      → AddsBy st true (permits q k) (is_absent k) (forbids q k) (is_absent k && is_fault (miss_walk m q ram)) (is_absent k && leaf_victim (with_tlb m t) q (miss_walk m q ram))
+  consulted : mode_known m.scheme m.satp.raw ≡ true → (st : TlbStats) (t : Tlb) (k : Option TlbEntry) → bypassed m q ≡ false → consult_of m q ≡ record { lookup = k; mmu = with_tlb m t }
+      → AddsBy st true (permits q k) (is_none k) (forbids q k) (is_none k && is_err (miss_walk m q ram)) (is_none k && leaf_victim (with_tlb m t) q (miss_walk m q ram))
       → Added st
   unfolding found_hit found_fault walk_fault walks evicts
   consulted known st t k h e a =
       let v = miss_walk m q ram in
       rw (on known h)
-      (subst (λ (x : Consulted). AddsBy st true (permits q x.lookup) (is_absent x.lookup) (forbids q x.lookup) (is_absent x.lookup && is_fault v) (is_absent x.lookup && leaf_victim x.mmu q v))
+      (subst (λ (x : Consulted). AddsBy st true (permits q x.lookup) (is_none x.lookup) (forbids q x.lookup) (is_none x.lookup && is_err v) (is_none x.lookup && leaf_victim x.mmu q v))
       (sym e) a)
 
   -- a TLB that was asked, with so many hits, misses and faults more
-  counted : (t : Tlb) (k : Lookup) → Consults m q t k → (f : ℕ) (hi wk ff wf : Bool) → one hi + one wk + one ff ≡ 1 → f ≡ one ff + one wf
+  counted : (t : Tlb) (k : Option TlbEntry) → Consults m q t k → (f : ℕ) (hi wk ff wf : Bool) → one hi + one wk + one ff ≡ 1 → f ≡ one ff + one wf
       → AddsBy (tallied (one hi) (one wk) f t).stats true hi wk ff wf false
   unfolding tallied
   counted t k c f hi wk ff wf p r =
@@ -188,7 +185,7 @@ module _ (m : Mmu) (q : Access) (ram : List ℕ) (fit : fit_of m ≡ true) where
       })
 
   -- a leaf that is installed, where the TLB is on
-  led_adds : (t : Tlb) (l : LeafAt) → Consults m q t Absent → AddsBy (filled m q l t).stats true false true false false (m.tlb_enabled && takes_victim t (made_of m q l))
+  led_adds : (t : Tlb) (l : LeafAt) → Consults m q t None → AddsBy (filled m q l t).stats true false true false false (m.tlb_enabled && takes_victim t (made_of m q l))
   unfolding tlb_install tallied takes_victim
   led_adds t l c = go m.tlb_enabled
     where
@@ -196,7 +193,7 @@ module _ (m : Mmu) (q : Access) (ram : List ℕ) (fit : fit_of m ≡ true) where
       u = tallied 0 1 0 t
 
       a : AddsBy u.stats true false true false false false
-      a = counted t Absent c 0 false true false false refl refl
+      a = counted t None c 0 false true false false refl refl
 
       go : (b : Bool) → AddsBy (cond b (tlb_install u (made_of m q l)) u).stats true false true false false (b && takes_victim t (made_of m q l))
       go true = record {
@@ -211,10 +208,10 @@ module _ (m : Mmu) (q : Access) (ram : List ℕ) (fit : fit_of m ≡ true) where
   case_adds : mode_known m.scheme m.satp.raw ≡ true → (v : Served) (ram' : List ℕ) → Case m q ram v ram' → Added v.mmu.tlb.stats
   unfolding made_of
   case_adds known v ram' (Passes h) = not_translated (passes_off h)
-  case_adds known v ram' (Hits h t e k c p) = consulted known _ t (Found e) h k (rw p (counted t (Found e) c 0 true false false false refl refl))
-  case_adds known v ram' (Forbids h t e k c p) = consulted known _ t (Found e) h k (rw p (counted t (Found e) c 1 false false true false refl refl))
-  case_adds known v ram' (Leads h t k c l e) = consulted known _ t Absent h k (rw e (led_adds t l c))
-  case_adds known v ram' (Ends h t k c why level e) = consulted known _ t Absent h k (rw e (counted t Absent c 1 false true false true refl refl))
+  case_adds known v ram' (Hits h t e k c p) = consulted known _ t (Some e) h k (rw p (counted t (Some e) c 0 true false false false refl refl))
+  case_adds known v ram' (Forbids h t e k c p) = consulted known _ t (Some e) h k (rw p (counted t (Some e) c 1 false false true false refl refl))
+  case_adds known v ram' (Leads h t k c l e) = consulted known _ t None h k (rw e (led_adds t l c))
+  case_adds known v ram' (Ends h t k c stop e) = consulted known _ t None h k (rw e (counted t None c 1 false true false true refl refl))
 
   turn_adds : (v : Served) (ram' : List ℕ) → Turn m q ram v ram' → Added v.mmu.tlb.stats
   turn_adds v ram' (Refuses k) = not_translated (refused_off k)

@@ -1,5 +1,7 @@
 -- A cache that tells the truth: each valid entry answers as the plain walk over the starting RAM does, and the marks that its hits would
 -- earn are made. One step keeps that, answers as the plain walk, and makes the marks that the access earns.
+use Rattle.std.specs.Prelude.{Err, Ok, Result}
+use Rattle.walk.specs.declared.Fault.{Fault}
 use Prim.Native.Nat.{ℕ, ◌+◌, ◌-◌, ◌*◌, ◌/◌, ◌^◌}
 use mathlib.Core.Path.{◌≡◌, refl, sym, ap, ◌∙◌}
 use mathlib.Core.Bool.{Bool, true, false, cond, ◌&&◌}
@@ -17,8 +19,6 @@ use Rattle.walk.specs.Verdict.{leaf_judged}
 use Rattle.walk.specs.Answer.{marked_by, physical_of}
 use Rattle.walk.specs.declared.Access.{Access}
 use Rattle.walk.specs.declared.LeafAt.{LeafAt}
-use Rattle.walk.specs.declared.Verdict.{Verdict}
-use Rattle.walk.specs.declared.Verdict.TheVariants.{Page, Fault}
 use Rattle.walks.specs.Plain.{plain_verdict, Bytes}
 use Rattle.walks.proofs.Steady.{Same}
 use Rattle.walks.proofs.Marks.{walk_same}
@@ -55,7 +55,7 @@ module _ (s : Settings) (start : List ℕ) where
     unfolding byte_earned
     walks_earns ram h = rw h
 
-  earned_marks : (q p : Access) (v : Verdict) (ram : List ℕ) → byte_earned q (byte_marks p v ram) ≡ byte_marks p v (byte_earned q ram)
+  earned_marks : (q p : Access) (v : Result LeafAt Fault) (ram : List ℕ) → byte_earned q (byte_marks p v ram) ≡ byte_marks p v (byte_earned q ram)
   unfolding byte_earned
   earned_marks q p v ram = go (passes s q)
     where
@@ -76,7 +76,7 @@ module _ (s : Settings) (start : List ℕ) where
   Truth ram e = (q : Access) → passes s q ≡ false → Decides s e q → (plain_answer s start q ≡ told_by s e q) × (byte_earned q ram ≡ ram)
 
   -- it still does when some access has made its marks
-  truth_marks : (p : Access) (v : Verdict) (ram : List ℕ) (e : Said) → Truth ram e → Truth (byte_marks p v ram) e
+  truth_marks : (p : Access) (v : Result LeafAt Fault) (ram : List ℕ) (e : Said) → Truth ram e → Truth (byte_marks p v ram) e
   unfolding Truth
   truth_marks p v ram e t q on d = ((t q on d).0, earned_marks q p v ram ∙ ap (byte_marks p v) (t q on d).1)
 
@@ -101,7 +101,7 @@ module _ (s : Settings) (start : List ℕ) where
     alike q = walk_alike s.scheme root start ram S.same q
 
     -- the entry that a walk leaves
-    truth_made : (p : Access) (l : LeafAt) → plain_walk s ram p ≡ Page l → Truth (byte_marks p (Page l) ram) (made_by s p l)
+    truth_made : (p : Access) (l : LeafAt) → plain_walk s ram p ≡ Ok l → Truth (byte_marks p (Ok l) ram) (made_by s p l)
     unfolding Truth
     truth_made p l met q on d =
         let o = s.scheme.offset_bits in
@@ -114,9 +114,9 @@ module _ (s : Settings) (start : List ℕ) where
               ∙ ap (verdict_heard (format_of s.scheme) q) same
               ∙ leaf_heard q l (format_of s.scheme)
               ∙ ap (λ (n : ℕ). told_at q n) whole,
-          walks_earns q (byte_marks p (Page l) ram) on
-              ∙ marks_same q _ _ (alike q) (byte_marks p (Page l) ram)
-              ∙ ap (λ (v : Verdict). byte_marks q v (byte_marks p (Page l) ram)) same
+          walks_earns q (byte_marks p (Ok l) ram) on
+              ∙ marks_same q _ _ (alike q) (byte_marks p (Ok l) ram)
+              ∙ ap (λ (v : Result LeafAt Fault). byte_marks q v (byte_marks p (Ok l) ram)) same
               ∙ leaf_rests q l p ram d.ready,
         )
       where
@@ -172,12 +172,12 @@ module _ (s : Settings) (start : List ℕ) where
         sound = record { steady = steady_walk ram S.steady q; truth = keeps (plain_walk s ram q) refl k };
       }
         where
-          old : (v : Verdict) → Holds (Truth (byte_marks q v ram)) t
+          old : (v : Result LeafAt Fault) → Holds (Truth (byte_marks q v ram)) t
           old v = holds_imp (Truth ram) (Truth (byte_marks q v ram)) t (truth_marks q v ram) S.truth
 
-          keeps : (v : Verdict) → plain_walk s ram q ≡ v → Left s Holds q v t t' → Holds (Truth (byte_marks q v ram)) t'
-          keeps (Page l) e k = k _ (truth_made ram S.steady q l e) (old (Page l))
-          keeps (Fault why level) e k = k _ (old (Fault why level))
+          keeps : (v : Result LeafAt Fault) → plain_walk s ram q ≡ v → Left s Holds q v t t' → Holds (Truth (byte_marks q v ram)) t'
+          keeps (Ok l) e k = k _ (truth_made ram S.steady q l e) (old (Ok l))
+          keeps (Err stop) e k = k _ (old (Err stop))
 
       pub step_right : (ram' : List ℕ) (x : Heard) → Step s Holds q t ram t' ram' x → Right q ram t' ram' x
       unfolding Truth

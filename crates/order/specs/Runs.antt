@@ -1,11 +1,11 @@
 -- What is heard along a run: a list of accesses and flushes, from a state and a RAM on.
-use Rattle.std.specs.Prelude.{ℕ, List, [], ◌∷◌}
+use Rattle.std.specs.Prelude.{ℕ, List, [], ◌∷◌, Err, Ok, Result, ⊤}
+use Rattle.access.specs.declared.Denied.{Denied}
+use Rattle.access.specs.declared.Place.{Place}
 use Rattle.scheme.specs.declared.refusal.Refusal.{Refusal}
-use Rattle.scheme.specs.declared.refusal.Said.{Said}
 use Rattle.walk.specs.declared.Access.{Access}
 use Rattle.mmu.specs.Calls.{flush_of, flush_vaddr_of, translate_of}
 use Rattle.state.specs.declared.Mmu.{Mmu}
-use Rattle.access.specs.declared.Outcome.{Outcome}
 use Rattle.session.specs.Session.{step_mmu, step_ram}
 use Rattle.session.specs.declared.Settings.{Settings}
 use Rattle.session.specs.declared.Event.{Event}
@@ -36,10 +36,10 @@ pub data Heard : Type 0 where
   Faults : ℕ → ℕ → Heard
   Refused : Refusal → Heard
 
-abbrev pub heard_of : Outcome → Heard
-heard_of (Outcome.Ok p) = At p.paddr
-heard_of (Outcome.Err f) = Faults f.cause f.vaddr
-heard_of (Outcome.Refused r) = Refused r
+abbrev pub heard_of : Result Place Denied → Heard
+heard_of (Ok p) = At p.paddr
+heard_of (Err (Denied.Fault f)) = Faults f.cause f.vaddr
+heard_of (Err (Denied.Refused r)) = Refused r
 
 -- the answers to the accesses, in order
 unfoldable pub answers : List Event → Mmu → List ℕ → List Heard
@@ -49,14 +49,14 @@ answers (Translate q ∷ es) m ram =
 answers (Flush ∷ es) m ram = answers es (step_mmu Flush m ram) (step_ram Flush m ram)
 answers (FlushAt va ∷ es) m ram = answers es (step_mmu (FlushAt va) m ram) (step_ram (FlushAt va) m ram)
 
-abbrev pub outcome_refusals : Outcome → List Refusal → List Refusal
-outcome_refusals (Outcome.Ok p) rest = rest
-outcome_refusals (Outcome.Err f) rest = rest
-outcome_refusals (Outcome.Refused r) rest = r ∷ rest
+abbrev pub outcome_refusals : Result Place Denied → List Refusal → List Refusal
+outcome_refusals (Ok p) rest = rest
+outcome_refusals (Err (Denied.Fault f)) rest = rest
+outcome_refusals (Err (Denied.Refused r)) rest = r ∷ rest
 
-abbrev pub said_refusals : Said → List Refusal → List Refusal
-said_refusals Said.Granted rest = rest
-said_refusals (Said.Refused r) rest = r ∷ rest
+abbrev pub said_refusals : Result ⊤ Refusal → List Refusal → List Refusal
+said_refusals (Ok _) rest = rest
+said_refusals (Err r) rest = r ∷ rest
 
 -- what one event is refused with, if it is, before the rest
 unfoldable pub refused_by : Event → Mmu → List ℕ → List Refusal → List Refusal

@@ -1,16 +1,13 @@
 -- What is counted along a run, by the published definitions at each access: the state and RAM are those that the access finds.
-use Rattle.std.specs.Prelude.{ℕ, ◌+◌, Bool, true, false, not, cond, ◌&&◌, List, [], ◌∷◌}
+use Rattle.std.specs.Prelude.{ℕ, ◌+◌, Bool, true, false, not, cond, ◌&&◌, List, [], ◌∷◌, Err, None, Ok, Option, Result, Some, is_none, is_err}
+use Rattle.walk.specs.declared.Fault.{Fault}
+use Rattle.walk.specs.declared.LeafAt.{LeafAt}
 use Rattle.walk.specs.declared.Access.{Access}
-use Rattle.walk.specs.declared.Verdict.{Verdict}
-use Rattle.walk.specs.declared.Verdict.TheVariants.{Page, Fault}
 use Rattle.entry.specs.declared.TlbEntry.{TlbEntry}
 use Rattle.slots.specs.Slots.{wanted_of, first_in}
-use Rattle.slots.specs.declared.Slot.{Slot}
 use Rattle.tlb.specs.Cache.{start_of, slot_of}
 use Rattle.tlb.specs.State.{shape_of, ways_of}
 use Rattle.tlb.specs.declared.Tlb.{Tlb}
-use Rattle.tlb.specs.declared.Lookup.{Lookup}
-use Rattle.tlb.specs.declared.Lookup.TheVariants.{Found, Absent}
 use Rattle.state.specs.State.{fit_of}
 use Rattle.access.specs.Translate.{bypassed, consult_of, entry_permits, miss_walk, made_of}
 use Rattle.mmu.specs.Calls.{mode_known}
@@ -31,53 +28,41 @@ unfoldable pub translated : Mmu → Access → List ℕ → Bool
 translated m q ram = (fit_of m && mode_known m.scheme m.satp.raw) && not (bypassed m q)
 
 -- an entry that decides the access, and permits it
-abbrev pub permits : Access → Lookup → Bool
-permits q (Found e) = entry_permits e q
-permits q Absent = false
+abbrev pub permits : Access → Option TlbEntry → Bool
+permits q (Some e) = entry_permits e q
+permits q None = false
 
 -- "a found entry that permits the access is a hit"
 unfoldable pub found_hit : Mmu → Access → List ℕ → Bool
 found_hit m q ram = translated m q ram && permits q (consult_of m q).lookup
 
 -- an entry that decides the access, and forbids it
-abbrev pub forbids : Access → Lookup → Bool
-forbids q (Found e) = not (entry_permits e q)
-forbids q Absent = false
+abbrev pub forbids : Access → Option TlbEntry → Bool
+forbids q (Some e) = not (entry_permits e q)
+forbids q None = false
 
 -- "faults on a found entry"
 unfoldable pub found_fault : Mmu → Access → List ℕ → Bool
 found_fault m q ram = translated m q ram && forbids q (consult_of m q).lookup
 
-abbrev pub is_absent : Lookup → Bool
-is_absent (Found e) = false
-is_absent Absent = true
-
 -- an access that walks: "All else is a miss"
 unfoldable pub walks : Mmu → Access → List ℕ → Bool
-walks m q ram = translated m q ram && is_absent (consult_of m q).lookup
-
-abbrev pub is_fault : Verdict → Bool
-is_fault (Page l) = false
-is_fault (Fault why level) = true
+walks m q ram = translated m q ram && is_none (consult_of m q).lookup
 
 -- "a faulting walk"
 unfoldable pub walk_fault : Mmu → Access → List ℕ → Bool
-walk_fault m q ram = walks m q ram && is_fault (miss_walk m q ram)
-
-abbrev pub is_nothing : Slot → Bool
-is_nothing (Slot.At i) = false
-is_nothing Slot.Nothing = true
+walk_fault m q ram = walks m q ram && is_err (miss_walk m q ram)
 
 -- "reuses the first matching slot in its set, else the first invalid slot, else a victim": no slot of the set matches, and none is invalid
 unfoldable pub takes_victim : Tlb → TlbEntry → Bool
 takes_victim t e =
     let start = start_of (shape_of t) e.vpn e.mask_bits in
-    is_nothing (slot_of (shape_of t) e.vpn e.asid t.entries e.mask_bits)
-    && is_nothing (first_in (wanted_of true 0 0) t.entries start (start + ways_of t))
+    is_none (slot_of (shape_of t) e.vpn e.asid t.entries e.mask_bits)
+    && is_none (first_in (wanted_of true 0 0) t.entries start (start + ways_of t))
 
-abbrev pub leaf_victim : Mmu → Access → Verdict → Bool
-leaf_victim m q (Page l) = m.tlb_enabled && takes_victim m.tlb (made_of m q l)
-leaf_victim m q (Fault why level) = false
+abbrev pub leaf_victim : Mmu → Access → Result LeafAt Fault → Bool
+leaf_victim m q (Ok l) = m.tlb_enabled && takes_victim m.tlb (made_of m q l)
+leaf_victim m q (Err stop) = false
 
 -- a walk whose leaf is installed over a victim, in the cache as the probe left it
 unfoldable pub evicts : Mmu → Access → List ℕ → Bool

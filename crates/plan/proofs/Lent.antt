@@ -1,11 +1,12 @@
 -- Writes in order, and in a part of a stretch that is lent.
 use Prim.Native.Nat.{ℕ, zero, suc, ◌+◌, ◌-◌, ◌/◌, ◌%◌, ◌≤◌, ◌<◌}
 use native.Mathlib.Omega.{arith}
-use native.Mathlib.Nat.{zero-add, suc-add, add_assoc}
+use native.Mathlib.Nat.{add_assoc}
 use mathlib.Core.Path.{◌≡◌, refl, sym, ap, subst, ◌∙◌}
 use mathlib.Core.List.{List, [], ◌∷◌, ◌++◌}
 use lib.ListN.{length, take, drop, set, length-set, take-append-drop, length-drop}
 use lib.Seq.{set-append_left, length-take-le}
+use Rattle.std.proofs.lemmas.List.{set-append_right}
 use Rattle.memory.specs.Word.{put_at}
 use Rattle.memory.proofs.Laws.{length_put}
 use Rattle.plan.specs.Writes.{Write, written}
@@ -23,12 +24,10 @@ length_written low (w ∷ ws) xs = length_written low ws _ ∙ length_put 4 xs (
 
 -- ---- a stretch of which a middle part is lent
 
-set_after : (hs xs : List ℕ) (i v : ℕ) → set (hs ++ xs) (length hs + i) v ≡ hs ++ set xs i v
-set_after [] xs i v = ap (λ (k : ℕ). set xs k v) (zero-add i)
-set_after (x ∷ hs) xs i v = ap (λ (k : ℕ). set (x ∷ (hs ++ xs)) k v) (suc-add (length hs) i) ∙ ap (λ (l : List ℕ). x ∷ l) (set_after hs xs i v)
-
 set_mid : (hs xs bs : List ℕ) (i v : ℕ) → i < length xs → set (hs ++ (xs ++ bs)) (length hs + i) v ≡ hs ++ (set xs i v ++ bs)
-set_mid hs xs bs i v h = set_after hs (xs ++ bs) i v ∙ ap (λ (l : List ℕ). hs ++ l) (set-append_left xs bs i v h)
+set_mid hs xs bs i v h =
+    let here : length hs + i - length hs ≡ i = omega arith in
+    rw (set-append_right hs (xs ++ bs) (length hs) (length hs + i) v refl (omega arith), here, set-append_left xs bs i v h)
 
 put_mid : (n : ℕ) (hs xs bs : List ℕ) (i v : ℕ) → i + n ≤ length xs → put_at n (hs ++ (xs ++ bs)) (length hs + i) v ≡ hs ++ (put_at n xs i v ++ bs)
 unfolding put_at

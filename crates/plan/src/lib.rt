@@ -1,8 +1,9 @@
 // The plan of a map: its entries' ranges and words, and the room of its child tables. It touches no RAM. What asks for a valid scheme is
-// for the installer, which tests that first.
+// for the installer, which tests that first. `level` and `parent` change from call to call, and each public function takes them apart from the
+// plan: a struct of the three would be made and taken apart at each call.
 #![tactic(auto)]
 
-ghost use Rattle.std.specs.Prelude.{◌≡◌, cond, ◌≤◌, ◌<◌, ◌+◌, ◌^◌};
+ghost use Rattle.std.specs.Prelude.{◌≡◌, ◌≤◌, ◌<◌, ◌+◌, ◌^◌};
 ghost use Rattle.plan.specs.Map.{flags_of, plan_of, shift, table_bytes, slot_bytes, pointer_word};
 ghost use Rattle.plan.specs.Levels.{width_at, below, base_at, opens_at, leaf_at, room_at, entry_room_at};
 ghost use Rattle.plan.specs.Levels.{Fit, Good, At, Entry, Placed};
@@ -50,35 +51,25 @@ pub struct Place {
     pub stop: usize,
 }
 
-// A flag's part of a word.
-fn flag(set: bool, value: u32) -> u32
-    ensures { (result ≡ cond set value 0) × (result ≤ value) }
-{
-    if set { value } else { 0 }
-}
-
 // A leaf's flags: V, and those of the map.
+#[tactic(auto, unfolding(crate::specs::Map::flags_of))]
 fn leaf_flags(perms: PtePerms, global: bool) -> u32
     ensures { result ≡ flags_of perms global }
 {
-    let rights = 1 + flag(perms.r, 2) + flag(perms.w, 4) + flag(perms.x, 8);
-    rights + flag(perms.u, 16) + flag(global, 32)
+    let rights = 2 * u32::from(perms.r) + 4 * u32::from(perms.w) + 8 * u32::from(perms.x);
+    1 + rights + 16 * u32::from(perms.u) + 32 * u32::from(global)
 }
 
+#[tactic(auto, unfolding(crate::specs::Map::plan_of))]
 pub fn plan_of(scheme: PagingScheme, spec: PageMapSpec, window: Window) -> Plan
     ensures { result ≡ plan_of scheme spec window }
 {
-    let kind = spec.kind;
-    let perms = spec.perms;
-    let rule = spec.rule;
-    let delta = kind.delta_bytes();
-    let flags = leaf_flags(perms, spec.global);
     Plan {
         scheme,
         window,
-        delta,
-        flags,
-        rule,
+        delta: spec.kind.delta_bytes(),
+        flags: leaf_flags(spec.perms, spec.global),
+        rule: spec.rule,
     }
 }
 
@@ -114,7 +105,7 @@ fn slot_bytes(s: PagingScheme, level: u8) -> usize
     requires { Fit s × (level < s.levels) }
     ensures { (result ≡ slot_bytes (width_at s level)) × (result ≤ 16384) }
 {
-    (table_bytes(s, level) + 4095) / 4096 * 4096
+    table_bytes(s, level).next_multiple_of(4096)
 }
 
 // Where an entry's range begins, by the plan's rule.
@@ -123,8 +114,7 @@ pub fn entry_base(p: Plan, level: u8, parent: usize, idx: usize) -> usize
     ensures { (result ≡ base_at p level parent idx) × (result < 2 ^ 32) }
 {
     let own = idx * span_at(p, level);
-    let rule = p.rule;
-    match rule {
+    match p.rule {
         MapRule::Relative => own,
         MapRule::Absolute => parent + own,
     }
@@ -190,10 +180,8 @@ pub fn room_below(p: Plan, level: u8, parent: usize) -> usize
     let s = p.scheme;
     let n = entries_at(s, level);
     let mut sum = 0;
-    let mut idx = 0;
-    while idx < n {
+    for idx in 0..n {
         sum += entry_room(p, level, parent, idx);
-        idx += 1;
     }
     sum
 }

@@ -3,43 +3,33 @@
 
 ghost use Rattle.std.specs.Prelude.{◌≡◌, ◌≤◌, length};
 ghost use Rattle.bundle_run.specs.Parts.{room_of};
-ghost use Rattle.run.specs.Run.{first_of, too_short, output_of, end_ram_of, ran_of, ran_mmu, ran_buffer, WroteWithin};
+ghost use Rattle.run.specs.Run.{too_short, output_of, end_ram_of, ran_of, ran_mmu, ran_buffer, WroteWithin};
 
-use scheme::Said;
+use scheme::Refusal;
 use state::Mmu;
+use writer::Out;
 
-// How many bytes of output were put, or that a buffer is too short.
+// A buffer has less room than the run may need.
 #[derive(Clone, Copy)]
-pub enum Ran {
-    Wrote(usize),
-    TooShort,
-}
+pub struct TooShort;
 
-// The same, and the state that the run leaves.
+// How many bytes of output were put, and the state that the run leaves.
+// No Result of the two: the contract hands the state back also where a buffer is too short.
 #[derive(Clone, Copy)]
 pub struct RunKept {
-    pub said: Ran,
+    pub said: Result<usize, TooShort>,
     pub mmu: Mmu,
 }
 
-// The first of two answers that refuses.
-pub fn first_of(a: Said, b: Said) -> Said
-    ensures { result ≡ first_of a b }
-{
-    match a {
-        Said::Refused(why) => Said::Refused(why),
-        Said::Granted => b,
-    }
-}
-
-// The room that an output may need.
-fn room(early: Said, count: usize) -> usize
+// The room that the output of what was read may need.
+#[tactic(auto, unfolding(bundle_run::specs::Parts::room_of))]
+fn room(early: Result<(), Refusal>, count: usize) -> usize
     requires { count ≤ 3000 }
     ensures { result ≡ room_of early count }
 {
     match early {
-        Said::Refused(why) => 11,
-        Said::Granted => 25 * count + 113,
+        Err(_) => 11,
+        Ok(()) => 25 * count + 113,
     }
 }
 
@@ -51,38 +41,47 @@ pub fn run_kept(file: &[u8], ram: &mut [u8], out: &mut [u8]) -> RunKept
         × (ram.new ≡ ran_buffer (too_short file.now (length ram.old) (length out.old)) ram.old (end_ram_of file.now))
         × WroteWithin result.said (length out.new) }
 {
-    let got = bundle::read(file);
-    let layout = got.said;
-    let p = got.parts;
-    let config = p.config;
-    let settings = p.settings;
-    let k = bundle_run::set_up(config, settings);
-    let said = k.said;
-    let m = k.mmu;
-    let early = first_of(layout, said);
-    let need = room(early, p.count);
-    if (out.len() < need) | (ram.len() < p.ram_len) {
-        return RunKept {
-            said: Ran::TooShort,
-            mmu: m,
-        };
-    }
-    let done = bundle_run::run_parts(file, early, p, m, ram, out);
-    let end = done.mmu;
-    let at = done.at;
-    RunKept {
-        said: Ran::Wrote(at),
-        mmu: end,
+    match bundle::read(file) {
+        Err(why) => {
+            let mmu = session::refused(why).mmu;
+            if out.len() < 11 {
+                return RunKept {
+                    said: Err(TooShort),
+                    mmu,
+                };
+            }
+            let mut line = Out::new(out);
+            text::put_refused(&mut line, why);
+            RunKept {
+                said: Ok(line.at()),
+                mmu,
+            }
+        }
+        Ok(p) => {
+            let start = bundle_run::set_up(p.config, p.settings);
+            let need = room(start.said, p.count);
+            if (out.len() < need) | (ram.len() < p.ram_len) {
+                return RunKept {
+                    said: Err(TooShort),
+                    mmu: start.mmu,
+                };
+            }
+            let mut lines = Out::new(out);
+            let mmu = bundle_run::run_parts(file, start.said, p, start.mmu, ram, &mut lines);
+            RunKept {
+                said: Ok(lines.at()),
+                mmu,
+            }
+        }
     }
 }
 
 // The same without the state.
-pub fn run(file: &[u8], ram: &mut [u8], out: &mut [u8]) -> Ran
+pub fn run(file: &[u8], ram: &mut [u8], out: &mut [u8]) -> Result<usize, TooShort>
     ensures { (result ≡ ran_of file.now (length ram.old) (length out.old))
         × (out.new ≡ ran_buffer (too_short file.now (length ram.old) (length out.old)) out.old (output_of file.now))
         × (ram.new ≡ ran_buffer (too_short file.now (length ram.old) (length out.old)) ram.old (end_ram_of file.now))
         × WroteWithin result (length out.new) }
 {
-    let k = run_kept(file, ram, out);
-    k.said
+    run_kept(file, ram, out).said
 }

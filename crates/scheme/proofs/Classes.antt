@@ -2,16 +2,16 @@
 -- with them from the top level on.
 use Prim.Native.Nat.{ℕ, suc, ◌+◌, ◌-◌, ◌≤◌, ◌<◌}
 use native.Mathlib.Nat.{eq-or-lt_of_le}
+use native.Mathlib.Numerals.{add-one}
 use native.Mathlib.Omega.{arith}
 use mathlib.Core.Path.{◌≡◌, refl, sym, ap, ◌∙◌}
 use mathlib.Core.Logic.{⊎_elim}
 use mathlib.Core.List.{List, [], ◌∷◌, ◌++◌, append_assoc}
 use mathlib.Core.Bool.{true}
-use lib.ListN.{length, get_or, drop, set, length-append, length-set, get_or-append}
-use lib.Seq.{drop-cons, get_or_at, get_or-set_same, drop-set-lt, length-take-le}
+use lib.ListN.{length, get_or, drop, set, length-append, get_or-append, length-drop, drop_of_length-le}
+use lib.Seq.{drop-cons, get_or_at, set-append_seam, length-take-le}
 use Rattle.scheme.specs.declared.PagingScheme.{PagingScheme}
-use Rattle.scheme.specs.declared.refusal.Said.TheVariants.{Granted}
-use Rattle.scheme.specs.Scheme.{total, ok_widths, widths_of, bought_of, valid_of, shift_of, classes, leaf_masks, sv32_scheme}
+use Rattle.scheme.specs.Scheme.{total, ok_widths, widths_of, bought_of, valid_of, shift_of, classes, sv32_scheme, padded}
 use Rattle.scheme.proofs.Widths.{Valid, ok_at, total_at}
 
 pub length_classes : (ws : List ℕ) → length (classes ws) ≡ length ws
@@ -70,24 +70,34 @@ pub sv32_valid : valid_of sv32_scheme ≡ true
 unfolding valid_of bought_of ok_widths total
 sv32_valid = refl
 
-pub sv32_masks : leaf_masks sv32_scheme ≡ record { masks = 0 ∷ 10 ∷ 0 ∷ 0 ∷ []; count = 2; said = Granted }
-unfolding leaf_masks valid_of bought_of ok_widths total classes
+pub sv32_masks : padded (classes (widths_of sv32_scheme)) ≡ 0 ∷ 10 ∷ 0 ∷ 0 ∷ []
+unfolding total classes
 sv32_masks = refl
 
--- the array is filled from the top level on: the classes of `ws` are yet to stand before what is written
-module _ (masks : List ℕ) (n i : ℕ) where
-  -- the first width's class is written, and those of the others are left to stand before it
-  pub class_put : (ws rest : List ℕ) (w m v : ℕ) → ws ≡ w ∷ rest → m ≡ n - 1 - i → v ≡ total rest → i < n → m < length masks
-      → classes rest ++ drop (n - (i + 1)) (set masks m v) ≡ classes ws ++ drop (n - i) masks
-  unfolding classes
-  class_put ws rest w m v e at sum h l =
-      let here : n - (i + 1) ≡ m = omega arith in
-      let above : n - i ≡ suc m = omega arith in
-      let put : drop m (set masks m v) ≡ v ∷ drop (suc m) masks =
-      drop-cons (set masks m v) m 0 (rw (length-set masks m v) l)
-      ∙ rw (get_or-set_same masks m v 0 l, drop-set-lt (suc m) masks m v (omega arith)) in
-      rw (here, above, e, put, sum) (sym (append_assoc (classes rest) (total rest ∷ []) (drop (suc m) masks)))
+-- the array is filled from the last level up: its class goes behind those of the levels below
+abbrev zeros : List ℕ
+zeros = 0 ∷ 0 ∷ 0 ∷ 0 ∷ []
 
-  pub class_end : (ws : List ℕ) → ws ≡ [] → n ≤ i → masks ≡ classes ws ++ drop (n - i) masks
+class_put : (cs : List ℕ) (v i : ℕ) → length cs ≡ i → i < 4 → set (padded cs) i v ≡ padded (cs ++ (v ∷ []))
+class_put cs v i e h =
+    rw (
+      sym e,
+      drop-cons zeros (length cs) 0 (omega (arith, e)),
+      set-append_seam cs (get_or zeros (length cs) 0) (drop (suc (length cs)) zeros) v,
+      length-append cs (v ∷ []),
+      add-one,
+      append_assoc cs (v ∷ []) (drop (suc (length cs)) zeros),
+    )
+
+module _ (ws : List ℕ) (n : ℕ) (count : length ws ≡ n) where
+  pub class_none : zeros ≡ padded (classes (drop (n - 0) ws))
   unfolding classes
-  class_end ws e h = let none : n - i ≡ 0 = omega arith in rw (e, none)
+  class_none = rw (drop_of_length-le ws {i = n - 0} (omega arith))
+
+  pub class_more : (i : ℕ) → i < n → n ≤ 4 → set (padded (classes (drop (n - i) ws))) i (total (drop (n - i) ws)) ≡ padded (classes (drop (n - (i + 1)) ws))
+  unfolding classes
+  class_more i h four =
+      let above : n - i ≡ suc (n - (i + 1)) = omega arith in
+      let rest = drop (suc (n - (i + 1))) ws in
+      let at : length (classes rest) ≡ i = omega (arith, length_classes rest, length-drop (suc (n - (i + 1))) ws) in
+      rw (drop-cons ws (n - (i + 1)) 0 (omega arith), above) (class_put (classes rest) (total rest) i at (omega arith))

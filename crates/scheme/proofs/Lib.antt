@@ -3,4 +3,3 @@ pub mod Levels
 pub mod Classes
 pub mod Answered
 pub mod Pack
-pub mod Raise

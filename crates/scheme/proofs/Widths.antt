@@ -1,10 +1,13 @@
 -- The used widths from a level on, how their sum goes down them, and what a valid scheme's widths are.
-use Prim.Native.Nat.{ℕ, zero, suc, ◌+◌, ◌-◌, ◌≤◌, ◌<◌}
+use Prim.Native.Nat.{ℕ, zero, suc, ◌+◌, ◌-◌, ◌*◌, ◌≤◌, ◌<◌}
 use native.Mathlib.Numerals.{add-one}
 use native.Mathlib.Omega.{arith}
-use mathlib.Core.Path.{◌≡◌, refl, sym, ap, ◌∙◌}
+use Rattle.std.specs.List.{sum_by}
+use Rattle.std.proofs.lemmas.List.Recursion.{is_sum_by}
+use Rattle.std.proofs.lemmas.List.Sums.{sum_by-take-drop, sum_by-take-le}
+use mathlib.Core.Path.{◌≡◌, refl, ap, ◌∙◌}
 use mathlib.Core.List.{List, [], ◌∷◌}
-use mathlib.Core.Bool.{Bool, true, false, ◌&&◌, ◌||◌, and-true, and_assoc}
+use mathlib.Core.Bool.{Bool, true, false, ◌&&◌, ◌||◌}
 use lib.ListN.{length, get_or, take, drop, drop_of_length-le}
 use lib.Seq.{drop-cons, get_or-take, length-take-le}
 use lib.Dec.{leb, eqb}
@@ -30,15 +33,23 @@ module _ (l : List ℕ) (n : ℕ) (long : n ≤ length l) where
   unfolding total
   total_end i h = ap total (rest_end i h)
 
-  -- a test of the widths, so far `ok`, goes on with the next of them
-  pub ok_cons : (i : ℕ) → i < n → (ok : Bool)
-      → (ok && between 1 12 (get_or l i 0)) && ok_widths (drop (i + 1) (take n l)) ≡ ok && ok_widths (drop i (take n l))
-  unfolding ok_widths
-  ok_cons i h ok = and_assoc ok _ _ ∙ sym (ap (λ (ws : List ℕ). ok && ok_widths ws) (rest_cons i h))
+-- bytes, of which there are at most four, add up to little, wherever the sum starts
+pub total_is : (ws : List ℕ) → total ws ≡ sum_by (λ w. w) ws
+unfolding total
+total_is ws = is_sum_by total (λ w. w) refl (λ _ _. refl) ws
 
-  pub ok_end : (i : ℕ) → n ≤ i → (ok : Bool) → ok && ok_widths (drop i (take n l)) ≡ ok
-  unfolding ok_widths
-  ok_end i h ok = ap (λ (ws : List ℕ). ok && ok_widths ws) (rest_end i h) ∙ and-true ok
+total_bytes : (ws : List ℕ) → ((i : ℕ) → get_or ws i 0 < 256) → total ws ≤ 255 * length ws
+unfolding total
+total_bytes [] h = omega arith
+total_bytes (w ∷ ws) h = omega (arith, h 0, total_bytes ws (λ i. h (suc i)))
+
+pub total_drop : (ws : List ℕ) (i : ℕ) → total (drop i ws) ≤ total ws
+total_drop ws i = omega (arith, sum_by-take-drop (λ w. w) ws i, total_is ws, total_is (drop i ws))
+
+pub total_few : (l : List ℕ) (n i : ℕ) → length l ≡ 4 → ((i : ℕ) → get_or l i 0 < 256) → total (drop i (take n l)) ≤ 1020
+total_few l n i four h =
+    let part = sum_by-take-le (λ w. w) l n in
+    omega (arith, total_drop (take n l) i, part, total_is (take n l), total_is l, total_bytes l h)
 
 -- what validity gives
 pub record Valid (s : PagingScheme) : Type 0 where

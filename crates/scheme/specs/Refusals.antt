@@ -1,11 +1,8 @@
 -- The numbers that stop a call, each given exactly when its sentence holds.
-use Rattle.std.specs.Prelude.{ℕ, Bool, cond}
+use Rattle.std.specs.Prelude.{ℕ, Bool, cond, Err, Ok, Result, ⊤}
 use Rattle.scheme.specs.declared.refusal.Refusal.{Refusal}
 use Rattle.scheme.specs.declared.refusal.Refusal.TheVariants.{BadScheme, TooManyEntries, Unfit, RootUnaligned}
 use Rattle.scheme.specs.declared.refusal.Refusal.TheVariants.{TopTableOutside, BadFlags, NoRoom, BadLayout, BadMode}
-use Rattle.scheme.specs.declared.refusal.Asked.{Asked}
-use Rattle.scheme.specs.declared.refusal.Asked.TheVariants.{Is, Refused}
-use Rattle.scheme.specs.declared.refusal.Said.{Said}
 
 abbrev pub number_of : Refusal → ℕ
 -- the scheme is not valid, or a level asked about is not below its count
@@ -28,10 +25,10 @@ number_of BadLayout = 8
 number_of BadMode = 10
 
 -- "A refusal returns its number, the state it was handed .., and RAM as it was"
-unfoldable pub on_grant : {A : Type 0} → Said → A → A → A
-on_grant Said.Granted new old = new
-on_grant (Said.Refused why) new old = old
+unfoldable pub on_grant : {A : Type 0} → Result ⊤ Refusal → A → A → A
+on_grant (Ok _) new old = new
+on_grant (Err why) new old = old
 
 -- a number asked of a scheme, or refusal 1
-unfoldable pub asked : Bool → ℕ → Asked
-asked known n = cond known (Is n) (Refused BadScheme)
+unfoldable pub asked : Bool → ℕ → Result ℕ Refusal
+asked known n = cond known (Ok n) (Err BadScheme)

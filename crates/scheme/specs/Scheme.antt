@@ -1,11 +1,10 @@
 -- Paging schemes: "a page offset width and one to four index widths, top first".
-use Rattle.std.specs.Prelude.{ℕ, suc, ◌+◌, ◌-◌, ◌*◌, ◌/◌, ◌^◌, ◌≤◌, ◌<◌, List, [], ◌∷◌, ◌++◌, Bool, true, ◌&&◌, ◌||◌, cond, length, get_or, take, drop, leb, ltb, eqb}
+use Rattle.std.specs.Prelude.{ℕ, suc, ◌+◌, ◌-◌, ◌*◌, ◌/◌, ◌^◌, ◌≤◌, ◌<◌, List, [], ◌∷◌, ◌++◌, Bool, true, ◌&&◌, ◌||◌, cond, length, get_or, take, drop, leb, ltb, eqb, Err, Ok, Result}
+use Rattle.scheme.specs.declared.refusal.Refusal.{Refusal}
 use Rattle.scheme.specs.declared.PagingScheme.{PagingScheme}
 use Rattle.scheme.specs.declared.Format.{Format}
 use Rattle.scheme.specs.declared.LeafMasks.{LeafMasks}
-use Rattle.scheme.specs.declared.refusal.Asked.{Asked}
 use Rattle.scheme.specs.declared.refusal.Refusal.TheVariants.{BadScheme}
-use Rattle.scheme.specs.declared.refusal.Said.TheVariants.{Granted, Refused}
 use Rattle.scheme.specs.Refusals.{asked}
 
 -- "Sv32": offset 12, widths 10 and 10
@@ -65,15 +64,15 @@ known_level s level = valid_of s && ltb level s.levels
 unfoldable pub shift_of : ℕ → List ℕ → ℕ → ℕ
 shift_of offset ws level = offset + total (drop (suc level) ws)
 
-unfoldable pub shift_at : PagingScheme → ℕ → Asked
+unfoldable pub shift_at : PagingScheme → ℕ → Result ℕ Refusal
 shift_at s level = asked (known_level s level) (shift_of s.offset_bits (widths_of s) level)
 
 -- the bytes of a page that a leaf at a level maps: one for each value of the bits below the level's index
-unfoldable pub page_bytes_at : PagingScheme → ℕ → Asked
+unfoldable pub page_bytes_at : PagingScheme → ℕ → Result ℕ Refusal
 page_bytes_at s level = asked (known_level s level) (2 ^ shift_of s.offset_bits (widths_of s) level)
 
 -- the entries of a level's table: one for each index
-unfoldable pub entries_at : PagingScheme → ℕ → Asked
+unfoldable pub entries_at : PagingScheme → ℕ → Result ℕ Refusal
 entries_at s level = asked (known_level s level) (2 ^ get_or (widths_of s) level 0)
 
 -- "Classes are shift minus offset for each level, ascending": a level's class is the sum of the widths below it
@@ -86,12 +85,8 @@ abbrev pub padded : List ℕ → List ℕ
 padded cs = cs ++ drop (length cs) (0 ∷ 0 ∷ 0 ∷ 0 ∷ [])
 
 -- the classes of a valid scheme, or refusal 1
-unfoldable pub leaf_masks : PagingScheme → LeafMasks
-leaf_masks s =
-    cond
-    (valid_of s)
-    (record { masks = padded (classes (widths_of s)); count = s.levels; said = Granted })
-    (record { masks = padded []; count = 0; said = Refused BadScheme })
+unfoldable pub leaf_masks : PagingScheme → Result LeafMasks Refusal
+leaf_masks s = cond (valid_of s) (Ok (record { masks = padded (classes (widths_of s)); count = s.levels })) (Err BadScheme)
 
 -- document 01's format: words of four bytes; physical addresses "kept to 32 bits"; no virtual address has a bit above 31; "satp: bit 31 mode
 -- (0 Bare), bits 30-22 ASID, 21-0 PPN", and "mode 1" where it is on
@@ -141,5 +136,5 @@ abbrev pub round_up : ℕ → ℕ
 round_up n = (n + 4095) / 4096 * 4096
 
 -- "RAM size less the top table's bytes rounded up to 4096, not under 0, rounded down to 4096"
-unfoldable pub root_pa : PagingScheme → ℕ → Asked
+unfoldable pub root_pa : PagingScheme → ℕ → Result ℕ Refusal
 root_pa s size = asked (valid_of s) ((size - round_up ((format_of s).bytes * 2 ^ get_or (widths_of s) 0 0)) / 4096 * 4096)

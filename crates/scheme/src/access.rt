@@ -1,6 +1,8 @@
-// Kinds of access and privilege modes.
-ghost use Rattle.std.specs.Prelude.{◌≡◌};
-ghost use Rattle.scheme.specs.Access.{cause_of};
+// Kinds of access and privilege modes, and their names.
+ghost use Rattle.std.specs.Prelude.{◌≡◌, Some};
+ghost use Rattle.scheme.specs.Access.{cause_of, access_name, privilege_name};
+
+use std::fmt;
 
 #[derive(Clone, Copy)]
 pub enum AccessType {
@@ -26,5 +28,29 @@ impl AccessType {
             AccessType::Load => 13,
             AccessType::Store => 15,
         }
+    }
+}
+
+impl fmt::Display for AccessType {
+    ghost output = { λ k. Some (access_name k) };
+
+    fn fmt<W: fmt::Write>(&self, f: &mut fmt::Formatter<W>) -> fmt::Result {
+        f.write_str(match self {
+            AccessType::Fetch => "fetch",
+            AccessType::Load => "load",
+            AccessType::Store => "store",
+        })
+    }
+}
+
+impl fmt::Display for PrivMode {
+    ghost output = { λ m. Some (privilege_name m) };
+
+    fn fmt<W: fmt::Write>(&self, f: &mut fmt::Formatter<W>) -> fmt::Result {
+        f.write_str(match self {
+            PrivMode::U => "U",
+            PrivMode::S => "S",
+            PrivMode::M => "M",
+        })
     }
 }

@@ -2,7 +2,8 @@
 // small types that every crate above shares: refusals, satp, the kind of a map, accesses.
 #![tactic(auto)]
 
-ghost use Rattle.std.specs.Prelude.{◌≡◌, true, ◌+◌, ◌≤◌, take, drop};
+ghost use Rattle.std.specs.Prelude.{◌≡◌, true, ◌+◌, ◌≤◌, drop, cond, Ok, Err};
+ghost use Rattle.scheme.specs.declared.refusal.Refusal.TheVariants.{BadScheme};
 ghost use Rattle.scheme.specs.Scheme.{total, ok_widths, levels_of, widths_of, total_bits, valid_of, known_level, sv32_scheme};
 ghost use Rattle.scheme.specs.Scheme.{shift_of, shift_at, page_bytes_at, entries_at, root_pa, is_sv39, sv39_scheme, bought_of, format_of};
 ghost use Rattle.scheme.specs.Scheme.{classes, padded, leaf_masks};
@@ -15,10 +16,10 @@ mod satp;
 
 pub use access::{AccessType, PrivMode};
 pub use map::MapKind;
-pub use refusal::{Asked, Refusal, Said};
+pub use refusal::Refusal;
 pub use satp::{Satp, SatpMode, make_satp, make_satp39};
 
-// `level_bits` holds `levels` widths; what stands behind them is not looked at.
+// `level_bits` holds `levels` widths; what stands behind them is not looked at. Four places and a count are document 01's form: there is no heap.
 #[derive(Clone, Copy)]
 pub struct PagingScheme {
     pub offset_bits: u8,
@@ -29,6 +30,7 @@ pub struct PagingScheme {
 // What may differ between the schemes' tables and registers: an entry's bytes; the bits that a physical address is kept to; the virtual
 // address's top, whose bits from `top` on are all clear, or are `ones`; and satp's fields, the PPN below the ASID, and the mode's number
 // that turns translation on.
+// `Modest` stays in the contracts that need it and is no invariant here: `walker::top_ok` answers for every format.
 #[derive(Clone, Copy)]
 pub struct Format {
     pub bytes: u8,
@@ -42,12 +44,11 @@ pub struct Format {
     pub mode: u8,
 }
 
-// The page classes of a scheme in ascending order, `count` of them, and 0 behind.
+// The page classes of a scheme in ascending order, `count` of them, and 0 behind: as many places as a scheme has, with no heap.
 #[derive(Clone, Copy)]
 pub struct LeafMasks {
     pub masks: [u8; 4],
     pub count: u8,
-    pub said: Said,
 }
 
 impl PagingScheme {
@@ -71,15 +72,21 @@ impl PagingScheme {
         }
     }
 
+    #[tactic(auto, unfolding(crate::specs::Scheme::is_sv39))]
     pub fn is_sv39(self) -> bool
         ensures { result ≡ is_sv39 self }
     {
-        let nines = (self.level_bits[0] == 9)
-            & (self.level_bits[1] == 9)
-            & (self.level_bits[2] == 9);
-        (self.offset_bits == 12) & ((self.levels == 3) & nines)
+        matches!(
+            self,
+            PagingScheme {
+                offset_bits: 12,
+                level_bits: [9, 9, 9, _],
+                levels: 3,
+            }
+        )
     }
 
+    #[tactic(auto, unfolding(crate::specs::Scheme::format_of))]
     pub fn format(self) -> Format
         ensures { result ≡ format_of self }
     {
@@ -110,6 +117,7 @@ impl PagingScheme {
     }
 
     // satp's mode, as the scheme's format has it.
+    #[tactic(auto, unfolding(crate::specs::Satp::mode_in))]
     pub fn satp_mode(self, satp: Satp) -> SatpMode
         ensures { result ≡ mode_of self satp.raw }
     {
@@ -127,11 +135,12 @@ impl PagingScheme {
     }
 
     // The frame of the root table.
+    #[tactic(auto, unfolding(crate::specs::Satp::root_in))]
     pub fn root_of(self, satp: Satp) -> u64
         ensures { result ≡ root_of self satp.raw }
     {
         let f = self.format();
-        bits::low_bits(satp.raw, f.asid_at as u32)
+        bits::low_bits(satp.raw, u32::from(f.asid_at))
     }
 
     pub fn num_levels(self) -> u8
@@ -140,29 +149,19 @@ impl PagingScheme {
         self.levels
     }
 
-    // How many widths the scheme has: a count above 4 has the four that there is room for.
-    fn used(self) -> usize
-        ensures { (result ≤ 4) × (take result self.level_bits ≡ widths_of self) }
+    // The used widths: a count above 4 has the four that there is room for.
+    fn widths(&self) -> &[u8]
+        ensures { result.now ≡ widths_of self.now }
     {
-        if 4 < self.levels {
-            return 4;
-        }
-        self.levels as usize
+        &self.level_bits[..usize::from(self.levels).min(4)]
     }
 
     // The offset plus the widths from `start` on.
     fn bits_from(self, start: usize) -> u32
         ensures { result ≡ self.offset_bits + total (drop start (widths_of self)) }
     {
-        let n = self.used();
-        let mut sum = self.offset_bits as u32;
-        let mut i = start;
-        while i < n {
-            let w = self.level_bits[i];
-            sum += w as u32;
-            i += 1;
-        }
-        sum
+        let widths = self.widths().iter().skip(start).map(|w| u32::from(*w));
+        u32::from(self.offset_bits) + widths.sum::<u32>()
     }
 
     // The offset plus all widths, for any scheme: 32 or 39 where it is valid.
@@ -176,133 +175,108 @@ impl PagingScheme {
     fn widths_ok(self) -> bool
         ensures { result ≡ ok_widths (widths_of self) }
     {
-        let n = self.used();
-        let mut ok = true;
-        let mut i = 0;
-        while i < n {
-            let w = self.level_bits[i];
-            ok = ok & ((1 <= w) & (w <= 12));
-            i += 1;
-        }
-        ok
+        self.widths().iter().all(|w| (1..=12).contains(w))
     }
 
     // Whether it is one of document 01's schemes.
+    #[tactic(auto, unfolding(crate::specs::Scheme::bought_of))]
     pub fn is_bought(self) -> bool
         ensures { result ≡ bought_of self }
     {
-        let offset = (12 <= self.offset_bits) & (self.offset_bits <= 30);
-        let count = (1 <= self.levels) & (self.levels <= 4);
-        offset & (count & (self.widths_ok() & (self.total_bits() == 32)))
+        (12..=30).contains(&self.offset_bits)
+            && (1..=4).contains(&self.levels)
+            && self.widths_ok()
+            && self.total_bits() == 32
     }
 
+    #[tactic(auto, unfolding(crate::specs::Scheme::valid_of))]
     pub fn is_valid(self) -> bool
         ensures { result ≡ valid_of self }
     {
-        self.is_bought() | self.is_sv39()
+        self.is_bought() || self.is_sv39()
     }
 
-    // Whether the scheme is valid and has this level.
-    fn knows(self, level: u8) -> bool
-        ensures { result ≡ known_level self level }
+    // Refusal 1 unless the scheme is valid and has this level.
+    fn known(self, level: u8) -> Result<(), Refusal>
+        ensures { result ≡ cond (known_level self level) (Ok tt) (Err BadScheme) }
     {
-        self.is_valid() & (level < self.levels)
+        if self.is_valid() && level < self.levels {
+            Ok(())
+        } else {
+            Err(Refusal::BadScheme)
+        }
     }
 
     // The offset plus the widths below `level`: for callers that know the scheme is valid.
+    #[tactic(auto, unfolding(crate::specs::Scheme::shift_of))]
     pub fn shift_below(self, level: u8) -> u32
         ensures { result ≡ shift_of self.offset_bits (widths_of self) level }
     {
-        self.bits_from(level as usize + 1)
+        self.bits_from(usize::from(level) + 1)
     }
 
-    pub fn shift_at(self, level: u8) -> Asked
+    pub fn shift_at(self, level: u8) -> Result<u64, Refusal>
         ensures { result ≡ shift_at self level }
     {
-        if self.knows(level) {
-            let shift = self.shift_below(level) as u64;
-            return Asked::Is(shift);
-        }
-        Asked::Refused(Refusal::BadScheme)
+        self.known(level)?;
+        Ok(u64::from(self.shift_below(level)))
     }
 
     // The size of a page that a leaf at `level` maps.
-    pub fn page_bytes_at(self, level: u8) -> Asked
+    pub fn page_bytes_at(self, level: u8) -> Result<u64, Refusal>
         ensures { result ≡ page_bytes_at self level }
     {
-        if self.knows(level) {
-            let shift = self.shift_below(level);
-            let bytes = 1u64 << shift;
-            return Asked::Is(bytes);
-        }
-        Asked::Refused(Refusal::BadScheme)
+        self.known(level)?;
+        Ok(1 << self.shift_below(level))
     }
 
     // How many entries a table of `level` has.
-    pub fn entries_at(self, level: u8) -> Asked
+    pub fn entries_at(self, level: u8) -> Result<u64, Refusal>
         ensures { result ≡ entries_at self level }
     {
-        if self.knows(level) {
-            let i = level as usize;
-            let w = self.level_bits[i];
-            let entries = 1u64 << w;
-            return Asked::Is(entries);
-        }
-        Asked::Refused(Refusal::BadScheme)
+        self.known(level)?;
+        let w = self.level_bits[usize::from(level)];
+        Ok(1 << w)
     }
 
-    // The classes from the top level's, which is the last, to the leaf level's, which is 0.
+    // The classes from the leaf level's, which is 0, to the top level's.
     fn classes(self) -> [u8; 4]
         requires { valid_of self ≡ true }
         ensures { result ≡ padded (classes (widths_of self)) }
     {
-        let n = self.levels as usize;
-        let mut masks = [0u8; 4];
-        let mut rest = self.total_bits() as u8 - self.offset_bits;
-        let mut i = 0;
-        while i < n {
-            let w = self.level_bits[i];
-            rest -= w;
-            let at = n - 1 - i;
-            masks[at] = rest;
-            i += 1;
+        let n = usize::from(self.levels);
+        let mut masks = [0; 4];
+        let mut below = 0;
+        for i in 0..n {
+            masks[i] = below;
+            below += self.level_bits[n - 1 - i];
         }
         masks
     }
 
-    pub fn leaf_masks(self) -> LeafMasks
+    pub fn leaf_masks(self) -> Result<LeafMasks, Refusal>
         ensures { result ≡ leaf_masks self }
     {
         if self.is_valid() {
             let masks = self.classes();
-            return LeafMasks {
+            return Ok(LeafMasks {
                 masks,
                 count: self.levels,
-                said: Said::Granted,
-            };
+            });
         }
-        LeafMasks {
-            masks: [0; 4],
-            count: 0,
-            said: Said::Refused(Refusal::BadScheme),
-        }
+        Err(Refusal::BadScheme)
     }
 
     // Where the top table starts in a RAM of `mem_size` bytes: as high as it fits.
-    pub fn root_pa(self, mem_size: u64) -> Asked
+    pub fn root_pa(self, mem_size: u64) -> Result<u64, Refusal>
         ensures { result ≡ root_pa self mem_size }
     {
-        if self.is_valid() {
-            let w = self.level_bits[0];
-            let size = self.format().bytes as u64;
-            let bytes = size << w;
-            let room = (bytes + 4095) / 4096 * 4096;
-            if mem_size < room {
-                return Asked::Is(0);
-            }
-            let root = (mem_size - room) / 4096 * 4096;
-            return Asked::Is(root);
+        if !self.is_valid() {
+            return Err(Refusal::BadScheme);
         }
-        Asked::Refused(Refusal::BadScheme)
+        let w = self.level_bits[0];
+        let bytes = u64::from(self.format().bytes) << w;
+        let room = (bytes + 4095) / 4096 * 4096;
+        Ok(mem_size.saturating_sub(room) / 4096 * 4096)
     }
 }

@@ -8,14 +8,11 @@ pub enum MapKind {
     Offset(i32),
 }
 
-// A signed count of MiB as a byte delta mod 2^32. A MiB is 2^20 bytes, so 4096 of them are 2^32: the count is first made
-// positive by a multiple of 4096 that is larger than any i32.
+// A signed count of MiB as a byte delta mod 2^32.
 fn mib_bytes(mib: i32) -> u32
     ensures { result ≡ delta mib }
 {
-    let up = (mib as i64) + 0x1_0000_0000;
-    let count = up as u64;
-    ((count % 4096) as u32) * 0x10_0000
+    mib.cast_unsigned().wrapping_mul(0x10_0000)
 }
 
 impl MapKind {

@@ -1,4 +1,4 @@
-// The numbers that stop a call, and the answers that hold one.
+// The numbers that stop a call.
 ghost use Rattle.std.specs.Prelude.{◌≡◌};
 ghost use Rattle.scheme.specs.Refusals.{number_of};
 
@@ -14,20 +14,6 @@ pub enum Refusal {
     NoRoom,
     BadLayout,
     BadMode,
-}
-
-// A number that was asked for, or the refusal.
-#[derive(Clone, Copy)]
-pub enum Asked {
-    Is(u64),
-    Refused(Refusal),
-}
-
-// Whether a call was granted. An answer that is an array has it beside the array, since an enum holds none.
-#[derive(Clone, Copy)]
-pub enum Said {
-    Granted,
-    Refused(Refusal),
 }
 
 impl Refusal {

@@ -3,9 +3,10 @@
 // nine bytes, after a capital letter eighteen: such a line is of a 64-bit board.
 #![tactic(auto)]
 
-ghost use Rattle.std.specs.Prelude.{◌+◌, ◌≤◌};
+use std::io;
+use std::io::Read;
 
-const STDIN_FILENO: i32 = 0;
+const LINE: usize = 80;
 
 // What a line asks for: its letter, in lower case, whether it was a capital, and its numbers.
 #[derive(Clone, Copy)]
@@ -18,116 +19,95 @@ pub struct Step {
     pub d: u64,
 }
 
-// A number that was read, and whether its column held nothing else.
-#[derive(Clone, Copy)]
-struct Number {
-    n: u64,
-    good: bool,
-}
-
-// What a character of a number stands for; 16 where it stands for nothing.
-fn digit(b: u8) -> u64 {
+// What a character of a number stands for.
+fn digit(b: u8) -> Option<u64> {
     match b {
-        b' ' => 0,
-        b'0'..=b'9' => (b - b'0') as u64,
-        b'a'..=b'f' => (b - b'a') as u64 + 10,
-        _ => 16,
+        b' ' => Some(0),
+        b'0'..=b'9' => Some(u64::from(b - b'0')),
+        b'a'..=b'f' => Some(u64::from(b - b'a') + 10),
+        _ => None,
     }
 }
 
-fn column(line: &[u8; 80], at: usize, width: usize) -> Number
-    requires { at + width ≤ 80 }
-{
-    let mut n: u64 = 0;
-    let mut good = true;
-    let mut i: usize = 0;
-    while i < width {
-        let d = digit(line[at + i]);
-        good = good & (d < 16);
-        n = n % 0x1000_0000_0000_0000 * 16 + d % 16;
-        i += 1;
-    }
-    Number { n, good }
+fn number(column: &[u8]) -> Option<u64> {
+    column
+        .iter()
+        .try_fold(0, |n: u64, b| Some(n << 4 | digit(*b)?))
 }
 
-fn width_of(wide: bool) -> usize
-    ensures { result ≤ 18 }
-{
-    if wide { 18 } else { 9 }
-}
-
-// The letter and the numbers; the letter is `?` where something in the columns is no number.
-fn numbers(line: &[u8; 80], letter: u8, wide: bool) -> Step {
-    let width = width_of(wide);
-    let a = column(line, 1, width);
-    let b = column(line, 1 + width, width);
-    let c = column(line, 1 + 2 * width, width);
-    let d = column(line, 1 + 3 * width, width);
-    let op = if a.good & b.good & c.good & d.good {
-        letter
-    } else {
-        b'?'
-    };
-    Step {
-        op,
+// The letter and the numbers, unless something in the columns is no number.
+fn step_of(line: &[u8; LINE]) -> Option<Step> {
+    let letter = line[0];
+    let wide = letter.is_ascii_uppercase();
+    let width = if wide { 18 } else { 9 };
+    let mut columns = line[1..].chunks_exact(width);
+    let a = number(columns.next()?)?;
+    let b = number(columns.next()?)?;
+    let c = number(columns.next()?)?;
+    let d = number(columns.next()?)?;
+    Some(Step {
+        op: letter.to_ascii_lowercase(),
         wide,
-        a: a.n,
-        b: b.n,
-        c: c.n,
-        d: d.n,
-    }
-}
-
-// Prints a title without the blanks behind it; what is printed next goes on in the same line.
-fn title(line: &[u8; 80]) {
-    let mut n: usize = 79;
-    while 2 < n && line[n - 1] == b' ' {
-        n -= 1;
-    }
-    let whole = &line[..];
-    show::text(&whole[2..n]);
-}
-
-// A letter without numbers.
-fn bare(op: u8) -> Step {
-    Step {
-        op,
-        wide: false,
-        a: 0,
-        b: 0,
-        c: 0,
-        d: 0,
-    }
-}
-
-// What a line asks for. A title is printed here, and then leaves no more to do than a comment.
-fn step_of(line: &[u8; 80]) -> Step {
-    let op = line[0];
-    if op == b't' {
-        title(line);
-        return bare(b'#');
-    }
-    if op == b'#' {
-        return bare(b'#');
-    }
-    match op {
-        b'A'..=b'Z' => numbers(line, op + 32, true),
-        _ => numbers(line, op, false),
-    }
-}
-
-// What the next line asks for; its letter is 0 at the end of the script.
-pub fn next_step() -> Step {
-    let mut line = [0u8; 80];
-    if io::read_full(STDIN_FILENO, &mut line) < 80 {
-        return bare(0);
-    }
-    step_of(&line)
+        a,
+        b,
+        c,
+        d,
+    })
 }
 
 // What is printed for a line that asks for nothing that the program knows.
-pub fn bad_line() {
-    show::text(b"bad line\n");
+pub fn bad_line(rt: &impl Print) -> io::Result<()> {
+    rt.println("bad line")
+}
+
+// What a line asks for, if that is for the program to do. A title is printed here without the blanks behind it; what is printed next goes on in
+// the same line.
+fn asked(rt: &impl Print, line: &[u8; LINE]) -> io::Result<Option<Step>> {
+    match line[0] {
+        b'#' => Ok(None),
+        b't' => {
+            let text = &line[2..LINE - 1];
+            let end = text
+                .iter()
+                .rposition(|b| *b != b' ')
+                .map_or(0, |last| last + 1);
+            rt.write_all(&text[..end])?;
+            Ok(None)
+        }
+        _ => {
+            let step = step_of(line);
+            if step.is_none() {
+                bad_line(rt)?;
+            }
+            Ok(step)
+        }
+    }
+}
+
+// Hands the script's steps to `perform`, one after another.
+pub fn run<R, F>(rt: &R, mut perform: F) -> io::Result<()>
+where
+    R: Input + Print,
+    F: FnMut(Step) -> io::Result<()>,
+    requires { F.IsAlwaysCallable perform }
+{
+    let mut input = rt.reader();
+    let mut line = [b' '; LINE];
+    // Nothing says that the input ends: the count is one that no run uses up.
+    for _ in 0..u64::MAX {
+        if input.read_exact(&mut line).is_err() {
+            break;
+        }
+        let Some(step) = asked(rt, &line)? else {
+            continue;
+        };
+        // A letter of 0 ends a script as the end of the input does.
+        if step.op == 0 {
+            break;
+        }
+        perform(step)?;
+    }
+    Ok(())
 }
 
 // The low half of a number, for what is 32 bits wide.

@@ -1,5 +1,7 @@
--- Facts behind the stages of translate: the states that each is handed, what a walk's answer says of its verdict, and which case of the
--- definitions holds.
+-- Facts behind the stages of translate: the states that each is handed, and what a walk's answer says of its verdict.
+use Rattle.std.specs.Prelude.{Err, Ok, Result}
+use Rattle.walk.specs.declared.Fault.{Fault}
+use Rattle.walk.specs.declared.LeafAt.{LeafAt}
 use Prim.Native.Nat.{ℕ, ◌<◌}
 use native.Mathlib.Omega.{arith}
 use mathlib.Core.Path.{◌≡◌, refl, sym, ap, ◌∙◌}
@@ -13,18 +15,14 @@ use Rattle.walk.specs.Verdict.{walk_of}
 use Rattle.walk.specs.Answer.{result_of, answer_of}
 use Rattle.walk.specs.declared.Access.{Access}
 use Rattle.walk.specs.declared.PageFault.{PageFault}
-use Rattle.walk.specs.declared.Verdict.{Verdict}
-use Rattle.walk.specs.declared.Verdict.TheVariants.{Page, Fault}
 use Rattle.walk.specs.declared.WalkAnswer.{WalkAnswer}
 use Rattle.walk.specs.declared.WalkResult.{WalkResult}
-use Rattle.walk.specs.declared.Walked.TheVariants.{Ok, Err}
 use Rattle.walk.proofs.Judged.{end_shift}
 use Rattle.walks.proofs.Claims.{scheme_blocks}
 use Rattle.tlb.specs.State.{Geo, tlb_install, tlb_probe}
 use Rattle.tlb.specs.declared.Tlb.{Tlb}
-use Rattle.tlb.specs.declared.Lookup.{Lookup}
 use Rattle.state.specs.State.{Ready, with_tlb}
-use Rattle.access.specs.Translate.{bypassed, tallied, consult_of, ok_at, fault_of, passed_of, made_with, made_of, walk_served, look_served, look_ram, served_of, served_ram}
+use Rattle.access.specs.Translate.{tallied, consult_of, ok_at, fault_of, made_with, made_of, walk_served}
 use Rattle.state.specs.declared.Mmu.{Mmu}
 use Rattle.access.specs.declared.Consulted.{Consulted}
 use Rattle.access.specs.declared.Served.{Served}
@@ -39,9 +37,9 @@ pub tallied_geo : (h n f : ℕ) (t : Tlb) → Geo t → Geo (tallied h n f t)
 unfolding tallied
 tallied_geo h n f t g = record { some = g.some; full = g.full; room = g.room }
 
-pub probe_ready : (m : Mmu) (q : Access) → Ready m → Ready (consult_of m q).mmu
+pub probe_ready : (m : Mmu) (q : Access) (seen : Consulted) → seen ≡ consult_of m q → Ready m → Ready seen.mmu
 unfolding consult_of tlb_probe
-probe_ready m q r = either m.tlb_enabled _ _ (record { valid = r.valid; geo = record { some = r.geo.some; full = r.geo.full; room = r.geo.room }; few = r.few }) r
+probe_ready m q seen e r = rw e (either m.tlb_enabled _ _ (record { valid = r.valid; geo = record { some = r.geo.some; full = r.geo.full; room = r.geo.room }; few = r.few }) r)
   where
     either : (b : Bool) (x y : Consulted) → Ready x.mmu → Ready y.mmu → Ready (cond b x y).mmu
     either true x y p q = p
@@ -50,7 +48,7 @@ probe_ready m q r = either m.tlb_enabled _ _ (record { valid = r.valid; geo = re
 -- ---- what a walk's answer says of its verdict
 
 module _ (m : Mmu) (q : Access) (w : WalkAnswer) where
-  pub served_ok : (v : Verdict) (r : WalkResult) → w ≡ answer_of (format_of m.scheme) q v → w.answer ≡ Ok r
+  pub served_ok : (v : Result LeafAt Fault) (r : WalkResult) → w ≡ answer_of (format_of m.scheme) q v → w.answer ≡ Ok r
       → ◌≡◌ {A = Served}
       (record {
         said = ok_at w.words r.paddr m.tlb.config.miss_penalty;
@@ -58,41 +56,29 @@ module _ (m : Mmu) (q : Access) (w : WalkAnswer) where
       })
       (walk_served m q v)
   unfolding walk_served made_of
-  served_ok (Page l) r e f =
+  served_ok (Ok l) r e f =
       let g : Ok (result_of (format_of m.scheme) q.vaddr l) ≡ Ok r = sym (ap (λ (x : WalkAnswer). x.answer) e) ∙ f in
       let k : result_of (format_of m.scheme) q.vaddr l ≡ r = cc in
       rw (sym k, e)
-  served_ok (Fault why level) r e f =
+  served_ok (Err stop) r e f =
       let g = sym (ap (λ (x : WalkAnswer). x.answer) e) ∙ f in
-      let z : ◌≡◌ {A = ℕ} 0 1 = cc in absurd (omega arith)
+      absurd cc
 
-  pub served_err : (v : Verdict) (x : PageFault) → w ≡ answer_of (format_of m.scheme) q v → w.answer ≡ Err x
+  pub served_err : (v : Result LeafAt Fault) (x : PageFault) → w ≡ answer_of (format_of m.scheme) q v → w.answer ≡ Err x
       → ◌≡◌ {A = Served} (record { said = fault_of w.words q; mmu = with_tlb m (tallied 0 1 1 m.tlb) }) (walk_served m q v)
   unfolding walk_served
-  served_err (Fault why level) x e f = rw e
-  served_err (Page l) x e f =
+  served_err (Err stop) x e f = rw e
+  served_err (Ok l) x e f =
       let g = sym (ap (λ (y : WalkAnswer). y.answer) e) ∙ f in
-      let z : ◌≡◌ {A = ℕ} 0 1 = cc in absurd (omega arith)
+      absurd cc
 
 -- a page of a valid scheme has fewer bits than an address
 pub page_small : (s : PagingScheme) (root : ℕ) (ram : List ℕ) (q : Access) (r : WalkResult) → valid_of s ≡ true
     → (answer_of (format_of s) q (walk_of s root ram q)).answer ≡ Ok r → r.page_bits < 32
 page_small s root ram q r ok f = go (walk_of s root ram q) refl f
   where
-    go : (v : Verdict) → walk_of s root ram q ≡ v → (answer_of (format_of s) q v).answer ≡ Ok r → r.page_bits < 32
-    go (Page l) e f =
+    go : (v : Result LeafAt Fault) → walk_of s root ram q ≡ v → (answer_of (format_of s) q v).answer ≡ Ok r → r.page_bits < 32
+    go (Ok l) e f =
         let k : result_of (format_of s) q.vaddr l ≡ r = cc in
         omega (arith, (scheme_blocks s root ram q.vaddr ok).high, end_shift q (descent_of ram root s q.vaddr) l e, ap (λ (x : WalkResult). x.page_bits) k)
-    go (Fault why level) e f = let z : ◌≡◌ {A = ℕ} 0 1 = cc in absurd (omega arith)
-
--- ---- which case of the definitions holds
-
-module _ (m : Mmu) (q : Access) (ram : List ℕ) where
-  pub served_passed : bypassed m q ≡ true → (passed_of m q ≡ served_of m q ram) × (ram ≡ served_ram m q ram)
-  unfolding served_of served_ram
-  served_passed h = (rw h, rw h)
-
-  pub served_by : (l : Lookup) → bypassed m q ≡ false → (consult_of m q).lookup ≡ l
-      → (look_served (consult_of m q).mmu q ram l ≡ served_of m q ram) × (look_ram (consult_of m q).mmu q ram l ≡ served_ram m q ram)
-  unfolding served_of served_ram
-  served_by l h e = (rw (h, e), rw (h, e))
+    go (Err stop) e f = absurd cc

@@ -1,4 +1,5 @@
-// One access on a fit state: what the TLB has to say of it, and the walk where it has nothing to say.
+// One access on a fit state: what the TLB has to say of it, and the walk where it has nothing to say. `Ready` stands in each contract and is no
+// invariant of the state: `mmu` answers for unfit states too, with refusal 3.
 #![tactic(auto)]
 
 ghost use Rattle.std.specs.Prelude.{◌≡◌, cond, ◌<◌};
@@ -11,33 +12,31 @@ ghost use Rattle.access.specs.Translate.{tallied, consult_of, made_with, walk_se
 
 use access::{Consulted, Served};
 use state::Mmu;
-use tlb::Lookup;
-use walk::{Access, WalkResult, Walked};
+use walk::{Access, WalkResult};
 
 // Asks the TLB, if it is on.
+#[tactic(auto, unfolding(access::specs::Translate::consult_of))]
 fn consult(m: Mmu, q: Access) -> Consulted
     requires { Ready m }
     ensures { result ≡ consult_of m q }
 {
     if !m.tlb_enabled {
         return Consulted {
-            lookup: Lookup::Absent,
+            lookup: None,
             mmu: m,
         };
     }
     let vpn = bits::shr64(q.vaddr, m.scheme.offset_bits);
     let asid = m.scheme.asid_of(m.satp);
-    let t = m.tlb;
-    let p = tlb_probe::probe(t, vpn, asid);
-    let found = p.lookup;
-    let u = p.tlb;
-    let lookup = access::decide(found, q);
-    let mut n = m;
-    n.tlb = u;
-    Consulted { lookup, mmu: n }
+    let p = tlb_probe::probe(m.tlb, vpn, asid);
+    Consulted {
+        lookup: access::decide(p.lookup, q),
+        mmu: Mmu { tlb: p.tlb, ..m },
+    }
 }
 
 // A miss whose walk came to a page: counted, and installed if the TLB is on.
+#[tactic(auto, using(crate::proofs::Serving::tallied_geo))]
 fn remember(m: Mmu, q: Access, r: WalkResult) -> Mmu
     requires { Ready m × (r.page_bits < 32) }
     ensures { result ≡ with_tlb m (cond m.tlb_enabled (tlb_install (tallied 0 1 0 m.tlb) (made_with m.scheme.offset_bits (asid_of m.scheme m.satp.raw) q r)) (tallied 0 1 0 m.tlb)) }
@@ -47,28 +46,26 @@ fn remember(m: Mmu, q: Access, r: WalkResult) -> Mmu
         return n;
     }
     let e = access::made(m.scheme.offset_bits, m.scheme.asid_of(m.satp), q, r);
-    let t = n.tlb;
-    let u = tlb_install::install(t, e);
-    let mut k = n;
-    k.tlb = u;
-    k
+    Mmu {
+        tlb: tlb_install::install(n.tlb, e),
+        ..n
+    }
 }
 
 // The TLB has nothing to say: the walk answers.
+#[tactic(auto, using(crate::proofs::Serving::page_small, crate::proofs::Serving::served_ok, crate::proofs::Serving::served_err))]
 fn miss(m: Mmu, q: Access, ram: &mut [u8]) -> Served
     requires { Ready m }
     ensures { (result ≡ walk_served m q (miss_walk m q ram.old)) × (ram.new ≡ marked_by (format_of m.scheme) q.kind ram.old (miss_walk m q ram.old)) }
 {
     let s = m.scheme;
-    let satp = m.satp;
-    let w = walk::walk_valid(s, s.root_of(satp), ram, q);
-    let answer = w.answer;
-    match answer {
-        Walked::Ok(r) => Served {
+    let w = walk::walk_valid(s, s.root_of(m.satp), ram, q);
+    match w.answer {
+        Ok(r) => Served {
             said: access::ok_at(w.words, r.paddr, m.tlb.config.miss_penalty),
             mmu: remember(m, q, r),
         },
-        Walked::Err(_) => Served {
+        Err(_) => Served {
             said: access::fault(w.words, q),
             mmu: access::counted(m, 0, 1, 1),
         },
@@ -76,23 +73,20 @@ fn miss(m: Mmu, q: Access, ram: &mut [u8]) -> Served
 }
 
 // Translates an access on a fit state.
+#[tactic(auto, unfolding(access::specs::Translate::served_of, access::specs::Translate::served_ram))]
 pub fn serve(m: Mmu, q: Access, ram: &mut [u8]) -> Served
     requires { Ready m }
     ensures { (result ≡ served_of m q ram.old) × (ram.new ≡ served_ram m q ram.old) }
 {
-    let satp = m.satp;
-    let mode = q.mode;
-    if access::passes(m.scheme, m.enabled, m.force_translate, satp, mode) {
+    if access::passes(m.scheme, m.enabled, m.force_translate, m.satp, q.mode) {
         return Served {
             said: access::ok_at(0, q.vaddr, 0),
             mmu: m,
         };
     }
     let seen = consult(m, q);
-    let lookup = seen.lookup;
-    let n = seen.mmu;
-    let Lookup::Found(e) = lookup else {
-        return miss(n, q, ram);
+    let Some(e) = seen.lookup else {
+        return miss(seen.mmu, q, ram);
     };
-    access::serve_found(n, e, q)
+    access::serve_found(seen.mmu, e, q)
 }

@@ -1,11 +1,10 @@
 -- A session: the state that it starts from, and what a list of events leaves, folded over the published calls of the MMU.
-use Rattle.std.specs.Prelude.{ℕ, cond, List, [], ◌∷◌}
+use Rattle.std.specs.Prelude.{ℕ, cond, List, [], ◌∷◌, Err, Result, ⊤}
+use Rattle.scheme.specs.declared.refusal.Refusal.{Refusal}
 use Rattle.scheme.specs.Refusals.{on_grant}
 use Rattle.scheme.specs.Satp.{satp_with}
 use Rattle.scheme.specs.Scheme.{valid_of}
 use Rattle.scheme.specs.declared.refusal.Refusal.TheVariants.{BadScheme}
-use Rattle.scheme.specs.declared.refusal.Said.{Said}
-use Rattle.scheme.specs.declared.refusal.Said.TheVariants.{Refused}
 use Rattle.entry.specs.Geometry.{default_config}
 use Rattle.entry.specs.declared.TlbConfig.{TlbConfig}
 use Rattle.state.specs.State.{state_new}
@@ -30,8 +29,8 @@ switched m t =
     }
 
 -- 1, then 2. Refusal 10 is no setting's: `translate` gives it
-unfoldable pub settings_said : TlbConfig → Settings → Said
-settings_said config t = cond (valid_of t.scheme) (new_of config).said (Refused BadScheme)
+unfoldable pub settings_said : TlbConfig → Settings → Result ⊤ Refusal
+settings_said config t = cond (valid_of t.scheme) (new_of config).said (Err BadScheme)
 
 -- what `new`, `set_scheme` and the switches give: "an empty cache of its own size and policy, scheme, satp and switches"; where the settings are
 -- refused, "the default one", as "from a refused `new`"

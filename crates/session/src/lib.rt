@@ -9,7 +9,7 @@ ghost use Rattle.session.specs.Session.{switched, start_of, settings_said};
 
 use entry::TlbConfig;
 use mmu::Kept;
-use scheme::{PagingScheme, Refusal, Said, Satp};
+use scheme::{PagingScheme, Refusal, Satp};
 use state::Mmu;
 use walk::Access;
 
@@ -35,48 +35,40 @@ pub enum Event {
 fn take_over(blank: Mmu, t: Settings) -> Mmu
     ensures { result ≡ switched (set_scheme_of blank t.scheme).mmu t }
 {
-    let s = t.scheme;
-    let adopted = mmu::set_scheme(blank, s);
-    let mut m = adopted.mmu;
-    let satp = Satp::new(t.satp);
-    m.satp = satp;
-    m.enabled = t.enabled;
-    m.force_translate = t.force;
-    m.tlb_enabled = t.tlb_on;
-    m
+    Mmu {
+        satp: Satp::new(t.satp),
+        enabled: t.enabled,
+        force_translate: t.force,
+        tlb_enabled: t.tlb_on,
+        ..mmu::set_scheme(blank, t.scheme).mmu
+    }
 }
 
 // What settings that are refused give: the default state.
+#[tactic(auto, using(mmu::proofs::Refusing::default_room), unfolding(mmu::specs::Calls::new_of))]
 pub fn refused(why: Refusal) -> Kept
     ensures { result ≡ refused_with why (state_new default_config) }
 {
-    let plain = mmu::new(entry::default_config());
-    let blank = plain.mmu;
     Kept {
-        said: Said::Refused(why),
-        mmu: blank,
+        said: Err(why),
+        mmu: mmu::new(entry::default_config()).mmu,
     }
 }
 
 // The state that a configuration and settings give, or why they are refused and the default state.
+#[tactic(auto, unfolding(mmu::specs::Calls::new_of, crate::specs::Session::start_of, crate::specs::Session::settings_said, scheme::specs::Refusals::on_grant))]
 pub fn set_up(config: TlbConfig, t: Settings) -> Kept
     ensures { (result.said ≡ settings_said config t) × (result.mmu ≡ start_of config t) }
 {
-    let s = t.scheme;
-    if !s.is_valid() {
+    if !t.scheme.is_valid() {
         return refused(Refusal::BadScheme);
     }
     let fresh = mmu::new(config);
-    let said = fresh.said;
-    let blank = fresh.mmu;
-    match said {
-        Said::Refused(why) => Kept {
-            said: Said::Refused(why),
-            mmu: blank,
-        },
-        Said::Granted => Kept {
-            said: Said::Granted,
-            mmu: take_over(blank, t),
-        },
+    if fresh.said.is_err() {
+        return fresh;
+    }
+    Kept {
+        said: Ok(()),
+        mmu: take_over(fresh.mmu, t),
     }
 }

@@ -1,42 +1,26 @@
-// What the test programs print with: words of text, numbers and line ends on standard output.
+// How the test programs print what std has no format for.
 #![tactic(auto)]
 
-pub fn text(s: &[u8]) {
-    io::write_all(1, s);
-}
+use std::fmt;
 
-// A space, and eight hexadecimal digits, or sixteen where eight do not hold the number.
-pub fn hex(n: u64) {
-    text(b" ");
-    if n < 0x1_0000_0000 {
-        io::print_hex(1, n, 8);
-    } else {
-        io::print_hex(1, n, 16);
+// Eight hexadecimal digits, or sixteen where eight do not hold the number.
+#[derive(Clone, Copy)]
+pub struct Hex(pub u64);
+
+impl fmt::Display for Hex {
+    fn fmt<W: fmt::Write>(&self, f: &mut fmt::Formatter<W>) -> fmt::Result {
+        let n = self.0;
+        let width = if n < 0x1_0000_0000 { 8 } else { 16 };
+        write!(f, "{n:0width$x}")
     }
 }
 
-// A space, and a decimal.
-pub fn large(n: u64) {
-    text(b" ");
-    io::print_decimal(1, n);
-}
+// `yes` or `no`.
+#[derive(Clone, Copy)]
+pub struct YesNo(pub bool);
 
-pub fn num(n: u32) {
-    large(n as u64);
-}
-
-pub fn small(n: u8) {
-    num(n as u32);
-}
-
-pub fn flag(b: bool) {
-    if b {
-        text(b" yes");
-    } else {
-        text(b" no");
+impl fmt::Display for YesNo {
+    fn fmt<W: fmt::Write>(&self, f: &mut fmt::Formatter<W>) -> fmt::Result {
+        f.write_str(if self.0 { "yes" } else { "no" })
     }
-}
-
-pub fn end() {
-    text(b"\n");
 }

@@ -1,30 +1,32 @@
 -- How a search or a change through the slots goes one slot on, and where its answer lies.
+use Rattle.std.specs.Prelude.{Some, None}
 use Prim.Native.Nat.{ℕ, zero, suc, ◌+◌, ◌-◌, ◌%◌, ◌≤◌, ◌<◌}
 use mathlib.Core.Path.{◌≡◌, refl, sym, ap}
-use mathlib.Core.Bool.{Bool, true, false, cond, ◌&&◌}
-use mathlib.Core.List.{List, [], ◌∷◌}
+use mathlib.Core.Bool.{Bool, true, false, cond}
+use mathlib.Core.List.{List, [], ◌∷◌, ◌++◌}
 use native.Mathlib.Nat.{lt_irrefl, not-suc-le-zero, zero-add, suc-add, mod-lt}
 use native.Mathlib.Numerals.{add-one, sub-one}
 use native.Mathlib.Omega.{arith}
-use lib.Dec.{leb}
-use lib.ListN.{length, set}
+use borrow.Author.Rules.{rules}
+use borrow.Rule.Slice.PartMut.{put_mid}
+use Rattle.std.proofs.lemmas.List.{places, set-append_right, set-append_left}
+use lib.ListN.{length, set, take, drop}
 use lib.Seq.{slice, slice-cons, slice_empty, length-slice}
 use Rattle.entry.specs.Entry.{blank, unreferenced_of, better_of}
 use Rattle.entry.specs.declared.TlbEntry.{TlbEntry}
 use Rattle.entry.specs.declared.ReplacementPolicy.{ReplacementPolicy}
 use Rattle.entry.specs.declared.ReplacementPolicy.TheVariants.{Lru, Mru, Fifo, Lfu, Clock, Random}
-use Rattle.slots.specs.Slots.{entry_at, scan, first_in, best, best_from, best_in, quiet_in, clock_from, map_in, all_fit}
-use Rattle.slots.specs.declared.Slot.TheVariants.{At, Nothing}
+use Rattle.slots.specs.Slots.{entry_at, first_in, best, best_from, best_in, quiet_in, clock_from, map_in}
 use Rattle.slots.specs.declared.Swept.{Swept}
 
 module _ (p : TlbEntry → Bool) (es : List TlbEntry) (end : ℕ) where
   -- nothing is left
-  pub first_none : first_in p es end end ≡ Nothing
+  pub first_none : first_in p es end end ≡ None
   unfolding first_in
   first_none = rw slice_empty
 
   -- the slot at i decides, or the search goes on at the next
-  pub first_step : (i : ℕ) → i < end → end ≤ length es → first_in p es i end ≡ cond (p (entry_at es i)) (At i) (first_in p es (i + 1) end)
+  pub first_step : (i : ℕ) → i < end → end ≤ length es → first_in p es i end ≡ cond (p (entry_at es i)) (Some i) (first_in p es (i + 1) end)
   unfolding first_in
   first_step i h k = rw (add-one i, slice-cons i end es blank h k)
 
@@ -40,20 +42,7 @@ module _ (newest : Bool) (es : List TlbEntry) (end : ℕ) where
   unfolding best_from
   best_step i slot age h k = rw (add-one i, slice-cons i end es blank h k)
 
--- where a slot was found, and where the best one is: below the end
-module _ (p : TlbEntry → Bool) where
-  scan_below : (xs : List TlbEntry) (n i : ℕ) → scan p xs n ≡ At i → i < n + length xs
-  scan_below [] n i e = let z : ◌≡◌ {A = ℕ} 0 1 = cc in omega arith
-  scan_below (x ∷ xs) n i e = go (p x) e (scan_below xs (suc n) i)
-    where
-      go : (b : Bool) → cond b (At n) (scan p xs (suc n)) ≡ At i → (scan p xs (suc n) ≡ At i → i < suc n + length xs) → i < n + length (x ∷ xs)
-      go true q r = let z : n ≡ i = cc in omega arith
-      go false q r = omega (arith, r q)
-
-  pub first_below : (es : List TlbEntry) (start end i : ℕ) → start ≤ end → end ≤ length es → first_in p es start end ≡ At i → i < end
-  unfolding first_in
-  first_below es start end i h k e = omega (arith, scan_below (slice start end es) start i e, length-slice start end es k)
-
+-- where the best slot is: below the end
 module _ (newest : Bool) (bound : ℕ) where
   pick_below : (b : Bool) (m n : ℕ) → m < bound → n < bound → cond b m n < bound
   pick_below true m n h k = h
@@ -133,10 +122,14 @@ module _ (f : TlbEntry → TlbEntry) where
       let g : a + k < length xs = omega arith in
       rw (suc-add a k) (ap (λ (l : List TlbEntry). x ∷ l) (map_step a k xs g))
 
--- one class more
-module _ (es : List TlbEntry) (n : ℕ) where
-  pub fit_none : all_fit (slice n n es) ≡ true
-  fit_none = rw slice_empty
-
-  pub fit_step : (i : ℕ) → i < n → n ≤ length es → all_fit (slice i n es) ≡ leb (entry_at es i).mask_bits 19 && all_fit (slice (i + 1) n es)
-  fit_step i h k = rw (add-one i, slice-cons i n es blank h k)
+  -- the same where the slots from a on are lent: ys are what they hold, the first j as f leaves them
+  pub put_step : (a k j : ℕ) (es ys : List TlbEntry) (v : TlbEntry) → a + j < length es → j < length ys →
+      put_mid a k es ys ≡ map_in f a j es → v ≡ f (entry_at ys j) → put_mid a k es (set ys j v) ≡ map_in f a (j + 1) es
+  put_step a k j es ys v h l e q =
+      let s : a + j - a ≡ j = omega arith in
+      let front : length (take a es) ≡ a = search (rules, places) in
+      let written : put_mid a k es (set ys j v) ≡ set (put_mid a k es ys) (a + j) v =
+      rw (set-append_right (take a es) (ys ++ drop k (drop a es)) a (a + j) v front (omega arith), s, set-append_left ys (drop k (drop a es)) j v l) in
+      let read : entry_at (put_mid a k es ys) (a + j) ≡ entry_at ys j = search (rules, places) in
+      let same : entry_at ys j ≡ entry_at es (a + j) = rw (← read, e, map_at) in
+      rw (written, e, q, same, map_step a j es h)

@@ -1,13 +1,21 @@
 -- A list of slots: the first that passes a test, the best by age, the clock's round, a change of some in a row, and whether all classes fit.
-use Rattle.std.specs.Prelude.{ℕ, zero, suc, ◌+◌, ◌%◌, Bool, true, false, cond, not, ◌&&◌, List, [], ◌∷◌, leb, get_or, set, take}
+use Rattle.std.specs.Prelude.{◌≡◌, ℕ, zero, suc, ◌+◌, ◌%◌, Bool, true, false, cond, not, ◌&&◌, List, [], ◌∷◌, leb, get_or, set, take, Option, Some, None}
+use Rattle.std.specs.Fn.{Shared}
+use Rattle.std.specs.Borrow.{Bor}
 use Rattle.std.proofs.Math.Seq.{slice}
-use Rattle.entry.specs.Entry.{blank, matches_of, unreferenced_of, better_of}
+use Rattle.entry.specs.Entry.{blank, matches_of, unreferenced_of, invalid_of, better_of}
 use Rattle.entry.specs.declared.TlbEntry.{TlbEntry}
 use Rattle.entry.specs.declared.ReplacementPolicy.{ReplacementPolicy}
 use Rattle.entry.specs.declared.ReplacementPolicy.TheVariants.{Lru, Mru, Fifo, Lfu, Clock, Random}
-use Rattle.slots.specs.declared.Slot.{Slot}
-use Rattle.slots.specs.declared.Slot.TheVariants.{At, Nothing}
 use Rattle.slots.specs.declared.Swept.{Swept}
+
+-- a test gives p of each entry
+abbrev pub Tells : {F : Type 0} → Shared F (Bor TlbEntry × Unit {0}) Bool → F → (TlbEntry → Bool) → Type 0
+Tells g f p = (a : Bor TlbEntry) (b : Bool) → g.post f (a, tt) b → b ≡ p a.now
+
+-- a test of two ages says which is better: the smaller, or for the newest the greater
+abbrev pub Ranks : {F : Type 0} → Shared F (ℕ × (ℕ × Unit {0})) Bool → F → Bool → Type 0
+Ranks g f newest = (age best : ℕ) (b : Bool) → g.post f (age, (best, tt)) b → b ≡ better_of newest age best
 
 abbrev pub entry_at : List TlbEntry → ℕ → TlbEntry
 entry_at es i = get_or es i blank
@@ -17,12 +25,12 @@ abbrev pub wanted_of : Bool → ℕ → ℕ → TlbEntry → Bool
 wanted_of free vpn asid e = cond free (not e.valid) (matches_of e vpn asid)
 
 -- the first element that passes, counted from n
-abbrev pub scan : (TlbEntry → Bool) → List TlbEntry → ℕ → Slot
-scan p [] n = Nothing
-scan p (x ∷ xs) n = cond (p x) (At n) (scan p xs (suc n))
+abbrev pub scan : (TlbEntry → Bool) → List TlbEntry → ℕ → Option ℕ
+scan p [] n = None
+scan p (x ∷ xs) n = cond (p x) (Some n) (scan p xs (suc n))
 
 -- from a start up to an end
-unfoldable pub first_in : (TlbEntry → Bool) → List TlbEntry → ℕ → ℕ → Slot
+unfoldable pub first_in : (TlbEntry → Bool) → List TlbEntry → ℕ → ℕ → Option ℕ
 first_in p es start end = scan p (slice start end es) start
 
 -- the best of the slots passed, and then of the rest, counted from n
@@ -57,6 +65,10 @@ clock_from (suc k) start ways hand es =
     cond (entry_at es (start + hand)).ref_bit
     (clock_from k start ways ((hand + 1) % ways) (set es (start + hand) (unreferenced_of (entry_at es (start + hand)))))
     (record { at = hand; entries = es })
+
+-- an entry without its valid mark, where it passes a test
+abbrev pub cleared_where : (TlbEntry → Bool) → TlbEntry → TlbEntry
+cleared_where p e = cond (p e) (invalid_of e) e
 
 -- f at the n slots from a on
 unfoldable pub map_in : (TlbEntry → TlbEntry) → ℕ → ℕ → List TlbEntry → List TlbEntry

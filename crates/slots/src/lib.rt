@@ -1,118 +1,99 @@
 // Searches and changes over the TLB's array of slots: each has one loop, over the slots of a set or over the first n.
 #![tactic(auto)]
 
-ghost use Rattle.std.specs.Prelude.{◌≡◌, ◌+◌, ◌≤◌, ◌<◌};
-ghost use Rattle.entry.specs.Entry.{cleared_of};
-ghost use Rattle.slots.specs.Slots.{wanted_of, first_in, best_in, quiet_in, clock_from, map_in, classes_fit};
+ghost use Rattle.std.specs.Prelude.{◌≡◌, ◌+◌, ◌≤◌, ◌<◌, Bool, IfSome};
+ghost use Rattle.entry.specs.declared.TlbEntry.{TlbEntry};
+ghost use Rattle.slots.specs.Slots.{Tells, Ranks, first_in, best_in, quiet_in, clock_from, cleared_where, map_in, classes_fit};
 
-// Where in the array, if anywhere.
-#[derive(Clone, Copy)]
-pub enum Slot {
-    At(usize),
-    Nothing,
-}
+use entry::{ReplacementPolicy, TlbEntry};
 
 // The slot that the clock takes, by its place in the set, and the slots as its hand leaves them.
 #[derive(Clone, Copy)]
 pub struct Swept {
     pub at: usize,
-    pub entries: [entry::TlbEntry; 128],
+    pub entries: [TlbEntry; 128],
 }
 
-// What a search asks of a slot: that it is free, or that it answers for the page.
-pub fn wanted(free: bool, e: entry::TlbEntry, vpn: u64, asid: u16) -> bool
-    ensures { result ≡ wanted_of free vpn asid e }
-{
-    if free {
-        return !e.valid;
-    }
-    entry::matches(e, vpn, asid)
-}
-
-// The first slot from start up to end that is free, or that answers for the page.
-pub fn first_slot(
-    es: [entry::TlbEntry; 128],
+// The first slot from start up to end that passes a test.
+pub fn first_slot<F: Fn(&TlbEntry) -> bool>(
+    es: [TlbEntry; 128],
     start: usize,
     end: usize,
-    free: bool,
-    vpn: u64,
-    asid: u16,
-) -> Slot
-    requires { (start ≤ end) × (end ≤ 128) }
-    ensures { result ≡ first_in (wanted_of free vpn asid) es start end }
+    passes: F,
+) -> Option<usize>
+    requires range { (start ≤ end) × (end ≤ 128) }
+    requires callable { F.IsAlwaysCallable passes }
+    ensures within { IfSome result (λ i. i < end) }
+    ensures first { (p : TlbEntry → Bool) → Tells F.Fn passes p → result ≡ first_in p es start end }
 {
-    let mut i = start;
-    while i < end {
-        let e = es[i];
-        if wanted(free, e, vpn, asid) {
-            return Slot::At(i);
+    for i in start..end {
+        if passes(&es[i]) {
+            return Some(i);
         }
-        i += 1;
     }
-    Slot::Nothing
+    None
 }
 
-// The first slot of the smallest age, or the last of the greatest.
-pub fn best_slot(es: [entry::TlbEntry; 128], start: usize, end: usize, newest: bool) -> usize
-    requires { (start < end) × (end ≤ 128) }
-    ensures { result ≡ best_in newest es start end }
+// The slot whose age is better than each before it, and not bettered after.
+pub fn best_slot<F: Fn(u32, u32) -> bool>(
+    es: [TlbEntry; 128],
+    start: usize,
+    end: usize,
+    better: F,
+) -> usize
+    requires range { (start < end) × (end ≤ 128) }
+    requires callable { F.IsAlwaysCallable better }
+    ensures within { result < end }
+    ensures best { (newest : Bool) → Ranks F.Fn better newest → result ≡ best_in newest es start end }
 {
-    let first = es[start];
     let mut best = start;
-    let mut age = first.age;
-    let mut i = start + 1;
-    while i < end {
-        let e = es[i];
-        if entry::better(newest, e.age, age) {
+    for i in start + 1..end {
+        if better(es[i].age, es[best].age) {
             best = i;
-            age = e.age;
         }
-        i += 1;
     }
     best
 }
 
 // The slot that a full set gives up where looking changes nothing: for every policy but Clock. `counter` is the age counter.
 pub fn quiet_victim(
-    es: [entry::TlbEntry; 128],
-    policy: entry::ReplacementPolicy,
+    es: [TlbEntry; 128],
+    policy: ReplacementPolicy,
     counter: u32,
     start: usize,
     ways: usize,
 ) -> usize
     requires { (start + ways ≤ 128) × (0 < ways) }
-    ensures { result ≡ quiet_in policy counter start ways es }
+    ensures within { result < start + ways }
+    ensures victim { result ≡ quiet_in policy counter start ways es }
 {
     match policy {
-        entry::ReplacementPolicy::Lru => best_slot(es, start, start + ways, false),
-        entry::ReplacementPolicy::Mru => best_slot(es, start, start + ways, true),
-        entry::ReplacementPolicy::Fifo => best_slot(es, start, start + ways, false),
-        entry::ReplacementPolicy::Lfu => best_slot(es, start, start + ways, false),
-        entry::ReplacementPolicy::Clock => start,
-        entry::ReplacementPolicy::Random => start + (counter as usize) % ways,
+        ReplacementPolicy::Lru | ReplacementPolicy::Fifo | ReplacementPolicy::Lfu => best_slot(
+            es,
+            start,
+            start + ways,
+            entry::is_lower,
+        ),
+        ReplacementPolicy::Mru => best_slot(es, start, start + ways, entry::is_no_lower),
+        ReplacementPolicy::Clock => start,
+        ReplacementPolicy::Random => start + (counter as usize) % ways,
     }
 }
 
 // Once round the set from a hand on, clearing reference bits, to the first slot whose bit is clear.
-pub fn clock_scan(es: [entry::TlbEntry; 128], start: usize, ways: usize, from: usize) -> Swept
+pub fn clock_scan(es: [TlbEntry; 128], start: usize, ways: usize, from: usize) -> Swept
     requires { (start + ways ≤ 128) × (from < ways) }
-    ensures { result ≡ clock_from ways start ways from es }
+    ensures within { result.at < ways }
+    ensures round { result ≡ clock_from ways start ways from es }
 {
     let mut us = es;
     let mut hand = from;
-    let mut left = ways;
-    while 0 < left {
-        let at = start + hand;
-        let e = us[at];
-        if !e.ref_bit {
-            return Swept {
-                at: hand,
-                entries: us,
-            };
+    for _turn in 0..ways {
+        if !us[start + hand].ref_bit {
+            break;
         }
-        us[at] = entry::unreferenced(e);
+        us[start + hand].ref_bit = false;
         hand = (hand + 1) % ways;
-        left -= 1;
     }
     Swept {
         at: hand,
@@ -120,39 +101,35 @@ pub fn clock_scan(es: [entry::TlbEntry; 128], start: usize, ways: usize, from: u
     }
 }
 
-// The n slots from start on are flushed.
-pub fn flush_slots(
-    es: [entry::TlbEntry; 128],
+// Of the n slots from start on, those that pass a test are flushed.
+pub fn flush_slots<F: Fn(&TlbEntry) -> bool>(
+    es: [TlbEntry; 128],
     start: usize,
     n: usize,
-    all: bool,
-    vpn: u64,
-) -> [entry::TlbEntry; 128]
-    requires { start + n ≤ 128 }
-    ensures { result ≡ map_in (cleared_of all vpn) start n es }
+    goes: F,
+) -> [TlbEntry; 128]
+    requires range { start + n ≤ 128 }
+    requires callable { F.IsAlwaysCallable goes }
+    ensures { (p : TlbEntry → Bool) → Tells F.Fn goes p → result ≡ map_in (cleared_where p) start n es }
 {
     let mut us = es;
-    let mut k: usize = 0;
-    while k < n {
-        let at = start + k;
-        let e = us[at];
-        us[at] = entry::cleared(all, e, vpn);
-        k += 1;
+    for e in us[start..start + n].iter_mut() {
+        if goes(e) {
+            e.valid = false;
+        }
     }
     us
 }
 
 // Whether no class among the first n slots is above 19. No early return: a fit cache is the common case.
-pub fn classes_fit(es: [entry::TlbEntry; 128], n: usize) -> bool
+#[tactic(auto, unfolding(crate::specs::Slots::classes_fit))]
+pub fn classes_fit(es: [TlbEntry; 128], n: usize) -> bool
     requires { n ≤ 128 }
     ensures { result ≡ classes_fit n es }
 {
-    let mut ok = true;
-    let mut i: usize = 0;
-    while i < n {
-        let e = es[i];
-        ok = ok & (e.mask_bits <= 19);
-        i += 1;
+    let mut fit = true;
+    for e in &es[..n] {
+        fit &= e.mask_bits <= 19;
     }
-    ok
+    fit
 }

@@ -1,25 +1,21 @@
--- Comparing two lists of classes: a step of the loop, its end, and what the comparison says.
-use Prim.Native.Nat.{ℕ, ◌+◌, ◌≤◌, ◌<◌}
+-- Comparing two lists of classes: by slices, and what the comparison says.
+use Prim.Native.Nat.{ℕ}
 use native.Mathlib.Omega.{arith}
-use mathlib.Core.Path.{◌≡◌, refl, sym, ap, ap₂, ◌∙◌}
-use mathlib.Core.Bool.{Bool, true, ◌&&◌, and-true, and_assoc, and-eq-true_iff}
+use mathlib.Core.Path.{◌≡◌, refl, ap, ap₂}
+use mathlib.Core.Bool.{Bool, true, ◌&&◌, and-eq-true_iff}
 use mathlib.Core.List.{List, [], ◌∷◌}
 use lib.Dec.{eqb}
-use lib.ListN.{length, get_or, take, drop}
+use lib.Pointwise.{pointwise}
 use borrow.Author.Tests.{eqb-true}
-use Rattle.scheme.proofs.Widths.{rest_cons, rest_end}
 use Rattle.state.specs.State.{alike}
 
-module _ (xs ys : List ℕ) (n : ℕ) (longx : n ≤ length xs) (longy : n ≤ length ys) (ok : Bool) (i : ℕ) where
-  -- one pair more is compared
-  pub alike_step : i < n → (ok && eqb (get_or xs i 0) (get_or ys i 0)) && alike (drop (i + 1) (take n xs)) (drop (i + 1) (take n ys))
-      ≡ ok && alike (drop i (take n xs)) (drop i (take n ys))
-  unfolding alike
-  alike_step h = and_assoc ok _ _ ∙ ap (λ (b : Bool). ok && b) (sym (ap₂ alike (rest_cons xs n longx i h) (rest_cons ys n longy i h)))
-
-  pub alike_end : n ≤ i → ok && alike (drop i (take n xs)) (drop i (take n ys)) ≡ ok
-  unfolding alike
-  alike_end h = ap (λ (b : Bool). ok && b) (ap₂ alike (rest_end xs n longx i h) (rest_end ys n longy i h)) ∙ and-true ok
+-- the slices' own comparison
+pub alike_is : (xs ys : List ℕ) → pointwise eqb xs ys ≡ alike xs ys
+unfolding alike
+alike_is [] [] = refl
+alike_is [] (y ∷ ys) = refl
+alike_is (x ∷ xs) [] = refl
+alike_is (x ∷ xs) (y ∷ ys) = ap (λ (b : Bool). eqb x y && b) (alike_is xs ys)
 
 -- lists that are alike are equal
 pub alike_same : (xs ys : List ℕ) → alike xs ys ≡ true → xs ≡ ys

@@ -3,74 +3,57 @@
 
 ghost use Rattle.std.specs.Prelude.{◌≡◌, ◌+◌, ◌*◌, ◌≤◌, length};
 ghost use Rattle.session.specs.Session.{step_mmu, step_ram, end_mmu, end_ram};
-ghost use Rattle.writer.specs.Put.{Put};
+ghost use Rattle.writer.specs.Wrote.{HasRoom, Wrote};
 ghost use Rattle.steps.specs.Steps.{events_from, step_line, lines_from, text_from};
 
 use session::Event;
 use state::Mmu;
+use writer::Out;
 
-// The state after some records, and the place after their lines.
-#[derive(Clone, Copy)]
-pub struct Stepped {
-    pub mmu: Mmu,
-    pub at: usize,
-}
-
-// One record: its line is put at `at`.
-fn step(e: Event, m: Mmu, ram: &mut [u8], out: &mut [u8], at: usize) -> Stepped
-    requires { at + 25 ≤ length out.old }
-    ensures { (result.mmu ≡ step_mmu e m ram.old) × (ram.new ≡ step_ram e m ram.old)
-        × Put 25 out.old out.new at result.at (step_line e m ram.old) }
+// One record: its line is put.
+#[tactic(auto, using(crate::proofs::Half::translated_short, writer::proofs::Wrotes::within))]
+fn step(e: Event, m: Mmu, ram: &mut [u8], out: &mut Out<'_>) -> Mmu
+    requires { HasRoom 25 out.old }
+    ensures { (result ≡ step_mmu e m ram.old) × (ram.new ≡ step_ram e m ram.old)
+        × Wrote 25 out.old out.new (step_line e m ram.old) }
 {
     match e {
         Event::Translate(q) => {
             let t = mmu::translate(m, q, ram);
-            let said = t.said;
-            let outcome = said.outcome;
-            let next = t.mmu;
-            let end = answer_text::put_answer(out, at, q.vaddr, outcome);
-            Stepped { mmu: next, at: end }
+            answer_text::put_answer(out, q.vaddr, t.said.outcome);
+            t.mmu
         }
         Event::Flush => {
-            let k = mmu::flush(m);
-            let next = k.mmu;
-            let end = text::put_flush(out, at);
-            Stepped { mmu: next, at: end }
+            text::put_flush(out);
+            mmu::flush(m).mmu
         }
         Event::FlushAt(va) => {
-            let k = mmu::flush_vaddr(m, va);
-            let next = k.mmu;
-            let end = text::put_flush_at(out, at, va);
-            Stepped { mmu: next, at: end }
+            text::put_flush_at(out, va);
+            mmu::flush_vaddr(m, va).mmu
         }
     }
 }
 
-// The `count` records from `first` on, their lines from the start of `out` on.
+// The `count` records from `first` on.
 fn run_records(
     file: &[u8],
     first: usize,
     count: usize,
     m: Mmu,
     ram: &mut [u8],
-    out: &mut [u8],
-) -> Stepped
-    requires { (first + 8 * count ≤ length file.now) × (25 * count ≤ length out.old) }
-    ensures { (result.mmu ≡ end_mmu (events_from file.now first count) m ram.old)
+    out: &mut Out<'_>,
+) -> Mmu
+    requires { (first + 8 * count ≤ length file.now) × HasRoom (25 * count) out.old }
+    ensures { (result ≡ end_mmu (events_from file.now first count) m ram.old)
         × (ram.new ≡ end_ram (events_from file.now first count) m ram.old)
-        × Put (25 * count) out.old out.new 0 result.at (lines_from (events_from file.now first count) m ram.old) }
+        × Wrote (25 * count) out.old out.new (lines_from (events_from file.now first count) m ram.old) }
 {
-    let mut done = Stepped { mmu: m, at: 0 };
-    let mut place = first;
-    let mut left = count;
-    while 0 < left {
-        let e = bundle::event_at(file, place);
-        let n = done.mmu;
-        done = step(e, n, ram, out, done.at);
-        place += 8;
-        left -= 1;
+    let mut n = m;
+    for k in 0..count {
+        let e = bundle::event_at(file, first + 8 * k);
+        n = step(e, n, ram, out);
     }
-    done
+    n
 }
 
 // The records and then the tallies.
@@ -80,17 +63,14 @@ pub fn run_all(
     count: usize,
     m: Mmu,
     ram: &mut [u8],
-    out: &mut [u8],
-) -> Stepped
-    requires { (first + 8 * count ≤ length file.now) × (25 * count + 113 ≤ length out.old) }
-    ensures { (result.mmu ≡ end_mmu (events_from file.now first count) m ram.old)
+    out: &mut Out<'_>,
+) -> Mmu
+    requires { (first + 8 * count ≤ length file.now) × HasRoom (25 * count + 113) out.old }
+    ensures { (result ≡ end_mmu (events_from file.now first count) m ram.old)
         × (ram.new ≡ end_ram (events_from file.now first count) m ram.old)
-        × Put (25 * count + 113) out.old out.new 0 result.at (text_from (events_from file.now first count) m ram.old) }
+        × Wrote (25 * count + 113) out.old out.new (text_from (events_from file.now first count) m ram.old) }
 {
-    let done = run_records(file, first, count, m, ram, out);
-    let mmu = done.mmu;
-    let t = mmu.tlb;
-    let stats = t.stats;
-    let at = text::put_tallies(out, done.at, stats);
-    Stepped { mmu, at }
+    let end = run_records(file, first, count, m, ram, out);
+    text::put_tallies(out, end.tlb.stats);
+    end
 }

@@ -1,10 +1,11 @@
 // What the test programs print of walks: who asks, where the descent and the judgement end, and the answer.
 #![tactic(auto)]
 
-use memory::Word;
-use scheme::{AccessType, PagingScheme, PrivMode};
-use walk::{Access, Reply, Verdict, Walked};
-use walker::{Found, Reason};
+use bundle::Code;
+use scheme::{PagingScheme, Refusal};
+use show::Hex;
+use std::io;
+use walk::{Access, Fault, PageFault, WalkAnswer, WalkResult};
 
 // A word of four bytes, or of a 64-bit board's eight.
 pub fn put(ram: &mut [u8], at: u64, word: u64, wide: bool) {
@@ -15,161 +16,120 @@ pub fn put(ram: &mut [u8], at: u64, word: u64, wide: bool) {
     }
 }
 
-// Every byte 0.
-pub fn clear(ram: &mut [u8]) {
-    let mut i: usize = 0;
-    while i < ram.len() {
-        ram[i] = 0;
-        i += 1;
-    }
-}
-
 fn byte(n: u64) -> u8 {
     (n % 256) as u8
 }
 
 // A scheme of up to four widths, a byte each, the top one first.
 pub fn scheme_of(offset_bits: u64, levels: u64, widths: u64) -> PagingScheme {
-    let top = byte(widths / 0x100_0000);
-    let second = byte(widths / 0x1_0000);
-    let third = byte(widths / 0x100);
-    let last = byte(widths);
     PagingScheme {
         offset_bits: byte(offset_bits),
-        level_bits: [top, second, third, last],
+        level_bits: ((widths % 0x1_0000_0000) as u32).to_be_bytes(),
         levels: byte(levels),
     }
 }
 
-fn kind_of(n: u64) -> AccessType {
-    match n {
-        0 => AccessType::Fetch,
-        1 => AccessType::Load,
-        _ => AccessType::Store,
-    }
-}
-
-fn mode_of(n: u64) -> PrivMode {
-    match n {
-        0 => PrivMode::U,
-        1 => PrivMode::S,
-        _ => PrivMode::M,
-    }
+// A script's number as one of a bundle's; those that no byte holds stand for what 255 does.
+pub fn code(n: u64) -> Code {
+    Code(n.min(255) as u8)
 }
 
 // Who asks, by the numbers that the trace bundle has for kind and privilege.
 pub fn asked(vaddr: u64, kind: u64, mode: u64) -> Access {
     Access {
         vaddr,
-        kind: kind_of(kind),
-        mode: mode_of(mode),
-    }
-}
-
-fn kind_name(kind: AccessType) {
-    match kind {
-        AccessType::Fetch => show::text(b" fetch"),
-        AccessType::Load => show::text(b" load"),
-        AccessType::Store => show::text(b" store"),
-    }
-}
-
-fn mode_name(mode: PrivMode) {
-    match mode {
-        PrivMode::U => show::text(b" U"),
-        PrivMode::S => show::text(b" S"),
-        PrivMode::M => show::text(b" M"),
+        kind: code(kind).into(),
+        mode: code(mode).into(),
     }
 }
 
 // Who asks, and the address that the answer names: the one asked for, or a fault's own.
-pub fn who(q: Access, vaddr: u64) {
-    let kind = q.kind;
-    let mode = q.mode;
-    show::hex(vaddr);
-    kind_name(kind);
-    mode_name(mode);
+pub fn who(rt: &impl Print, q: Access, vaddr: u64) -> io::Result<()> {
+    print!(rt; " {} {} {}", Hex(vaddr), q.kind, q.mode)
 }
 
-fn reason_name(why: Reason) {
-    match why {
-        Reason::Unreadable => show::text(b" not readable"),
-        Reason::Invalid => show::text(b" not valid"),
-        Reason::WriteOnly => show::text(b" W without R"),
-        Reason::Misaligned => show::text(b" misaligned"),
-        Reason::OutOfLevels => show::text(b" out of levels"),
-        Reason::NoRight => show::text(b" no right"),
-        Reason::Privilege => show::text(b" privilege"),
-        Reason::WrongTop => show::text(b" wrong top"),
-        Reason::HighBits => show::text(b" high bits"),
+pub fn fault(rt: &impl Print, q: Access, f: PageFault) -> io::Result<()> {
+    who(rt, q, f.vaddr)?;
+    print!(rt; " fault {}", f.cause)
+}
+
+pub fn refused(rt: &impl Print, r: Refusal) -> io::Result<()> {
+    print!(rt; " refused {}", r.number())
+}
+
+// Whether a call was granted.
+pub fn said(rt: &impl Print, s: Result<(), Refusal>) -> io::Result<()> {
+    match s {
+        Ok(()) => print!(rt; " granted"),
+        Err(r) => refused(rt, r),
     }
 }
 
 // The reason of a fault and its level, by the descent and the judgement alone.
-fn verdict(ram: &[u8], s: PagingScheme, root: u64, access: Access) {
-    let Found::At(d) = walker::find(ram, root, s, access.vaddr) else {
-        return;
+fn verdict(
+    rt: &impl Print,
+    ram: &[u8],
+    s: PagingScheme,
+    root: u64,
+    access: Access,
+) -> io::Result<()> {
+    let Ok(d) = walker::find(ram, root, s, access.vaddr) else {
+        return Ok(());
     };
     match walk::judge(d, access) {
-        Verdict::Page(_) => (),
-        Verdict::Fault(why, level) => {
-            reason_name(why);
-            show::text(b" at");
-            show::small(level);
-        }
+        Ok(_) => Ok(()),
+        Err(Fault { why, level }) => print!(rt; " {why} at {level}"),
     }
 }
 
-fn told(q: Access, answer: Walked) {
+fn told(rt: &impl Print, q: Access, answer: Result<WalkResult, PageFault>) -> io::Result<()> {
     match answer {
-        Walked::Ok(r) => {
-            who(q, q.vaddr);
-            show::text(b" ok");
-            show::hex(r.paddr);
-            show::num(r.page_bits);
-            show::small(r.leaf_level);
+        Ok(r) => {
+            who(rt, q, q.vaddr)?;
+            print!(rt; " ok {} {} {}", Hex(r.paddr), r.page_bits, r.leaf_level)
         }
-        Walked::Err(f) => {
-            who(q, f.vaddr);
-            show::text(b" fault");
-            show::num(f.cause);
-        }
+        Err(f) => fault(rt, q, f),
     }
 }
 
-fn replied(q: Access, reply: Reply) {
+fn replied(rt: &impl Print, q: Access, reply: Result<WalkAnswer, Refusal>) -> io::Result<()> {
     match reply {
-        Reply::Done(w) => {
-            let answer = w.answer;
-            told(q, answer);
-            show::text(b" words");
-            show::num(w.words);
+        Ok(w) => {
+            told(rt, q, w.answer)?;
+            print!(rt; " words {}", w.words)
         }
-        Reply::Refused(r) => {
-            who(q, q.vaddr);
-            show::text(b" refused");
-            show::num(r.number());
+        Err(r) => {
+            who(rt, q, q.vaddr)?;
+            refused(rt, r)
         }
     }
 }
 
 // The word at an address, or a dash.
-pub fn word(ram: &[u8], at: u64, wide: bool) {
+pub fn word(rt: &impl Print, ram: &[u8], at: u64, wide: bool) -> io::Result<()> {
     let read = if wide {
         memory::load(ram, at, 8, 56)
     } else {
         memory::load(ram, at, 4, 32)
     };
     match read {
-        Word::Is(x) => show::hex(x),
-        Word::Unreadable => show::text(b" -"),
+        Some(x) => print!(rt; " {}", Hex(x)),
+        None => print!(rt; " -"),
     }
 }
 
 // One walk: who asks, the answer, the words asked for, the word at `leaf` afterwards, and the reason of a fault.
-pub fn walked(ram: &mut [u8], s: PagingScheme, root: u64, access: Access, leaf: u64, wide: bool) {
-    replied(access, walk::walk(s, root, ram, access));
-    word(ram, leaf, wide);
-    verdict(ram, s, root, access);
-    show::end();
+pub fn walked(
+    rt: &impl Print,
+    ram: &mut [u8],
+    s: PagingScheme,
+    root: u64,
+    access: Access,
+    leaf: u64,
+    wide: bool,
+) -> io::Result<()> {
+    replied(rt, access, walk::walk(s, root, ram, access))?;
+    word(rt, ram, leaf, wide)?;
+    verdict(rt, ram, s, root, access)?;
+    println!(rt)
 }

@@ -1,4 +1,7 @@
 -- The numbers that a line tells are short: a refusal's, and the causes of every access on a fit state, as `put_answer` asks.
+use Rattle.std.specs.Prelude.{Err, None, Ok, Option, Result, Some}
+use Rattle.walk.specs.declared.Fault.{Fault}
+use Rattle.walk.specs.declared.LeafAt.{LeafAt}
 use mathlib.Core.Bool.{Bool, true, false, cond}
 use mathlib.Core.List.{List}
 use mathlib.Core.Path.{◌≡◌}
@@ -15,10 +18,7 @@ use Rattle.scheme.specs.declared.refusal.Refusal.TheVariants.{TopTableOutside, B
 use Rattle.scheme.specs.declared.access.AccessType.{AccessType}
 use Rattle.scheme.specs.declared.access.AccessType.TheVariants.{Fetch, Load, Store}
 use Rattle.walk.specs.declared.Access.{Access}
-use Rattle.walk.specs.declared.Verdict.{Verdict}
 use Rattle.entry.specs.declared.TlbEntry.{TlbEntry}
-use Rattle.tlb.specs.declared.Lookup.{Lookup}
-use Rattle.tlb.specs.declared.Lookup.TheVariants.{Found, Absent}
 use Rattle.state.specs.declared.Mmu.{Mmu}
 use Rattle.access.specs.Translate.{bypassed, cause_in, consult_of, entry_permits, found_served, look_served, miss_walk, passed_of, served_of, walk_served}
 use Rattle.access.specs.declared.Served.{Served}
@@ -53,14 +53,14 @@ found : (m : Mmu) (e : TlbEntry) (q : Access) → Short (found_served m e q)
 unfolding found_served
 found m e q = either (entry_permits e q) _ _ (omega arith) (known q.kind)
 
-walked : (m : Mmu) (q : Access) (v : Verdict) → Short (walk_served m q v)
+walked : (m : Mmu) (q : Access) (v : Result LeafAt Fault) → Short (walk_served m q v)
 unfolding walk_served
-walked m q (Verdict.Page l) = omega arith
-walked m q (Verdict.Fault why level) = known q.kind
+walked m q (Ok l) = omega arith
+walked m q (Err stop) = known q.kind
 
-looked : (m : Mmu) (q : Access) (ram : List ℕ) (l : Lookup) → Short (look_served m q ram l)
-looked m q ram (Found e) = found m e q
-looked m q ram Absent = walked m q (miss_walk m q ram)
+looked : (m : Mmu) (q : Access) (ram : List ℕ) (l : Option TlbEntry) → Short (look_served m q ram l)
+looked m q ram (Some e) = found m e q
+looked m q ram None = walked m q (miss_walk m q ram)
 
 pub served_short : (m : Mmu) (q : Access) (ram : List ℕ) → Short (served_of m q ram)
 unfolding served_of

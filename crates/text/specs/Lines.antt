@@ -1,13 +1,13 @@
 -- The program's lines, as bytes. "Output: `va ok pa stall`, `va fault cause`, `flush`, or `flush va`; addresses are 8 lower-case hex
 -- digits, the rest decimal. Then the tallies line. A refusal prints `refused N` alone." (document 01, "The trace bundle"). Every line
 -- ends with a newline.
-use Rattle.std.specs.Prelude.{List, [], ◌∷◌, ◌++◌, ◌≡◌, refl, ℕ}
+use Rattle.std.specs.Prelude.{List, [], ◌∷◌, ◌++◌, ◌≡◌, refl, ℕ, Err, Ok, Result}
+use Rattle.access.specs.declared.Denied.{Denied}
+use Rattle.access.specs.declared.Place.{Place}
 use Rattle.scheme.specs.Refusals.{number_of}
 use Rattle.scheme.specs.declared.refusal.Refusal.{Refusal}
 use Rattle.scheme.specs.declared.refusal.Refusal.TheVariants.{BadLayout}
 use Rattle.tlb.specs.declared.TlbStats.{TlbStats}
-use Rattle.access.specs.declared.Outcome.{Outcome}
-use Rattle.access.specs.declared.Outcome.TheVariants.{Ok, Err, Refused}
 use Rattle.writer.specs.Digits.{hex_digits, hex_of, decimal_in, told}
 
 -- ---- the words, with the spaces around them
@@ -80,10 +80,10 @@ abbrev pub refused_line : Refusal → List ℕ
 refused_line r = told refused_word (number_of r) ++ newline
 
 -- the line of an access at va
-abbrev pub answer_line : ℕ → Outcome → List ℕ
+abbrev pub answer_line : ℕ → Result Place Denied → List ℕ
 answer_line va (Ok p) = ok_line va p.paddr p.stall
-answer_line va (Err f) = fault_line va f.cause
-answer_line va (Refused r) = refused_line r
+answer_line va (Err (Denied.Fault f)) = fault_line va f.cause
+answer_line va (Err (Denied.Refused r)) = refused_line r
 
 -- ---- case T's lines, and a refusal
 
@@ -94,7 +94,7 @@ unfolding hex_digits decimal_in
 case_t_ok = refl
 
 -- `00000000 fault 13`
-case_t_fault : answer_line 0 (Err (record { cause = 13; vaddr = 0 }))
+case_t_fault : answer_line 0 (Err (Denied.Fault (record { cause = 13; vaddr = 0 })))
     ≡ 48 ∷ 48 ∷ 48 ∷ 48 ∷ 48 ∷ 48 ∷ 48 ∷ 48 ∷ 32 ∷ 102 ∷ 97 ∷ 117 ∷ 108 ∷ 116 ∷ 32 ∷ 49 ∷ 51 ∷ 10 ∷ []
 unfolding hex_digits decimal_in
 case_t_fault = refl

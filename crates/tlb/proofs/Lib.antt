@@ -1,2 +1,1 @@
-pub mod CacheLaws
 pub mod Fitness

@@ -1,14 +1,10 @@
 -- What each operation of the TLB does, over a list of slots and a few counts: nothing here depends on how the state is laid out.
-use Rattle.std.specs.Prelude.{ℕ, ◌+◌, ◌*◌, ◌/◌, ◌%◌, ◌^◌, false, true, cond, List, [], ◌∷◌, set, get_or}
+use Rattle.std.specs.Prelude.{ℕ, ◌+◌, ◌*◌, ◌/◌, ◌%◌, ◌^◌, false, true, cond, List, [], ◌∷◌, set, get_or, None, Option, Some}
 use Rattle.entry.specs.Entry.{touched_of, fresh_of, cleared_of, is_clock}
 use Rattle.entry.specs.declared.TlbEntry.{TlbEntry}
 use Rattle.entry.specs.declared.ReplacementPolicy.{ReplacementPolicy}
 use Rattle.slots.specs.Slots.{entry_at, wanted_of, first_in, quiet_in, clock_from, map_in}
-use Rattle.slots.specs.declared.Slot.{Slot}
-use Rattle.slots.specs.declared.Slot.TheVariants.{At, Nothing}
 use Rattle.slots.specs.declared.Swept.{Swept}
-use Rattle.tlb.specs.declared.Lookup.{Lookup}
-use Rattle.tlb.specs.declared.Lookup.TheVariants.{Found, Absent}
 
 -- what operations change
 pub record Cache : Type 0 where
@@ -67,9 +63,9 @@ victim_in p group start ways c =
     cond (is_clock p) (clock_in group start ways c)
     (record { at = quiet_in p c.counter start ways c.slots; cache = c })
 
-abbrev pub on_slot : {A : Type 0} → Slot → (ℕ → A) → A → A
-on_slot (At i) f z = f i
-on_slot Nothing f z = z
+abbrev pub on_slot : {A : Type 0} → Option ℕ → (ℕ → A) → A → A
+on_slot (Some i) f z = f i
+on_slot None f z = z
 
 -- "else a victim, and then one eviction is counted"
 unfoldable pub replace_in : ReplacementPolicy → ℕ → ℕ → ℕ → TlbEntry → Cache → Cache
@@ -90,7 +86,7 @@ abbrev pub start_of : Shape → ℕ → ℕ → ℕ
 start_of s vpn class = set_of s vpn class * s.ways
 
 -- the first slot that answers, in the set of one class
-abbrev pub slot_of : Shape → ℕ → ℕ → List TlbEntry → ℕ → Slot
+abbrev pub slot_of : Shape → ℕ → ℕ → List TlbEntry → ℕ → Option ℕ
 slot_of s vpn asid es class =
     first_in (wanted_of false vpn asid) es (start_of s vpn class) (start_of s vpn class + s.ways)
 
@@ -102,28 +98,28 @@ install_in s e c =
 
 -- "the answer of a probe is either the entry found or nothing", and the cache after it
 pub record Seen : Type 0 where
-  pub lookup : Lookup
+  pub lookup : Option TlbEntry
   pub cache : Cache
 
 -- "Each found probe adds 1 to the age counter", and the policy's mark is left
 unfoldable pub touch_at : ReplacementPolicy → ℕ → Cache → Seen
 touch_at p i c = record {
-  lookup = Found (touched_of p (next_age c) (entry_at c.slots i));
+  lookup = Some (touched_of p (next_age c) (entry_at c.slots i));
   cache = with_slots c (set c.slots i (touched_of p (next_age c) (entry_at c.slots i))) (next_age c);
 }
 
-abbrev pub or_slot : Slot → Slot → Slot
-or_slot (At i) s = At i
-or_slot Nothing s = s
+abbrev pub or_slot : Option ℕ → Option ℕ → Option ℕ
+or_slot (Some i) s = Some i
+or_slot None s = s
 
 -- "A probe visits each class's set once, in class order". A second look into a set that missed finds nothing, so no list of sets is kept
-unfoldable pub find_from : Shape → List ℕ → ℕ → ℕ → List TlbEntry → Slot
-find_from s [] vpn asid es = Nothing
+unfoldable pub find_from : Shape → List ℕ → ℕ → ℕ → List TlbEntry → Option ℕ
+find_from s [] vpn asid es = None
 find_from s (m ∷ ms) vpn asid es = or_slot (slot_of s vpn asid es m) (find_from s ms vpn asid es)
 
 unfoldable pub probe_in : Shape → ℕ → ℕ → Cache → Seen
 probe_in s vpn asid c =
-    on_slot (find_from s s.classes vpn asid c.slots) (λ i. touch_at s.policy i c) (record { lookup = Absent; cache = c })
+    on_slot (find_from s s.classes vpn asid c.slots) (λ i. touch_at s.policy i c) (record { lookup = None; cache = c })
 
 -- "`flush` only clears valid marks": of every entry, which are the slots of all sets
 unfoldable pub flush_in : Shape → Cache → Cache

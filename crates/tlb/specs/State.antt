@@ -1,6 +1,6 @@
 -- The TLB's state as the code has it: where its cache and its shape stand, what each call leaves, and which states are fit.
 use Rattle.std.specs.Prelude.{ℕ, ◌*◌, ◌/◌, ◌^◌, ◌≤◌, ◌<◌, ◌≡◌, Bool, ◌&&◌, List, eqb, leb, take, replicate}
-use Rattle.scheme.specs.Scheme.{sv32_scheme, leaf_masks}
+use Rattle.scheme.specs.Scheme.{sv32_scheme, widths_of, classes, padded}
 use Rattle.entry.specs.Entry.{blank}
 use Rattle.entry.specs.Geometry.{ways_for, entries_for, sets_for}
 use Rattle.entry.specs.declared.TlbEntry.{TlbEntry}
@@ -82,8 +82,8 @@ tlb_new config = record {
   config = config;
   stats = record { hits = 0; misses = 0; evictions = 0; page_faults = 0 };
   offset_bits = sv32_scheme.offset_bits;
-  superpage_masks = (leaf_masks sv32_scheme).masks;
-  mask_count = (leaf_masks sv32_scheme).count;
+  superpage_masks = padded (classes (widths_of sv32_scheme));
+  mask_count = sv32_scheme.levels;
 }
 
 -- "`set_scheme` keeps entries"

@@ -2,111 +2,105 @@
 #![tactic(auto)]
 
 ghost use Rattle.std.specs.Prelude.{◌≡◌, ◌+◌, ◌<◌, ◌≤◌};
-ghost use Rattle.tlb.specs.Cache.{store_at, evicted, clock_in, replace_in, install_new};
+ghost use Rattle.tlb.specs.Cache.{store_at, clock_in, victim_in, replace_in, install_new};
 ghost use Rattle.tlb.specs.State.{Geo, cache_of, with_cache, tlb_install};
-ghost use Rattle.tlb_install.specs.Victim.{victim_with};
 
+use entry::TlbEntry;
+use slots::Swept;
 use tlb::Tlb;
 
-// The slot to give up, and the state after looking for it.
+// The slots of one set: `ways` of them, from `start` on. `set` is its number.
 #[derive(Clone, Copy)]
-struct Victim {
-    pub at: usize,
-    pub tlb: Tlb,
+struct Row {
+    set: usize,
+    start: usize,
+    ways: usize,
+    ghost in_array: { (set < 128) × (start + ways ≤ 128) × (0 < ways) },
 }
 
 // The entry laid in slot i, one age on.
-fn store(t: Tlb, i: usize, e: entry::TlbEntry) -> Tlb
+#[tactic(auto, unfolding(tlb::specs::Cache::store_at))]
+fn store(t: &mut Tlb, i: usize, e: TlbEntry)
     requires { i < 128 }
-    ensures { result ≡ with_cache t (store_at t.config.replacement i e (cache_of t)) }
+    ensures { t.new ≡ with_cache t.old (store_at t.old.config.replacement i e (cache_of t.old)) }
 {
-    let age = std::num::wrapping_add_u32(t.age_counter, 1);
-    let c = t.config;
-    let p = c.replacement;
-    let f = entry::fresh(e, p, age);
-    let mut u = t;
-    u.entries[i] = f;
-    u.age_counter = age;
-    u
-}
-
-// The same over another entry, and the eviction counted.
-fn store_over(t: Tlb, i: usize, e: entry::TlbEntry) -> Tlb
-    requires { i < 128 }
-    ensures { result ≡ with_cache t (store_at t.config.replacement i e (evicted (cache_of t))) }
-{
-    let n = std::num::wrapping_add_u64(t.stats.evictions, 1);
-    let age = std::num::wrapping_add_u32(t.age_counter, 1);
-    let c = t.config;
-    let p = c.replacement;
-    let f = entry::fresh(e, p, age);
-    let mut u = t;
-    u.entries[i] = f;
-    u.age_counter = age;
-    u.stats.evictions = n;
-    u
+    let age = t.age_counter.wrapping_add(1);
+    t.entries[i] = entry::fresh(e, t.config.replacement, age);
+    t.age_counter = age;
 }
 
 // The clock's choice in a set, with the hand moved one past it.
-fn clock_victim(t: Tlb, set: usize, start: usize, ways: usize) -> Victim
-    requires { (set < 128) × (start + ways ≤ 128) × (0 < ways) }
-    ensures { result ≡ victim_with t (clock_in set start ways (cache_of t)) }
+#[tactic(auto, unfolding(tlb::specs::Cache::clock_in))]
+fn clock_victim(t: &mut Tlb, row: Row) -> usize
+    ensures within { result < 128 }
+    ensures at { result ≡ (clock_in row.set row.start row.ways (cache_of t.old)).at }
+    ensures after { t.new ≡ with_cache t.old (clock_in row.set row.start row.ways (cache_of t.old)).cache }
 {
-    let hand = (t.clock_hands[set] as usize) % ways;
-    let es = t.entries;
-    let v = slots::clock_scan(es, start, ways, hand);
-    let at = v.at;
-    let us = v.entries;
-    let next = ((at + 1) % ways) as u8;
-    let slot = start + at;
-    let mut u = t;
-    u.entries = us;
-    u.clock_hands[set] = next;
-    Victim { at: slot, tlb: u }
+    let hand = usize::from(t.clock_hands[row.set]) % row.ways;
+    let Swept { at, entries } = slots::clock_scan(t.entries, row.start, row.ways, hand);
+    t.entries = entries;
+    t.clock_hands[row.set] = ((at + 1) % row.ways) as u8;
+    row.start + at
 }
 
-// A full set gives up a slot.
-fn replace(t: Tlb, set: usize, start: usize, ways: usize, e: entry::TlbEntry) -> Tlb
-    requires { (set < 128) × (start + ways ≤ 128) × (0 < ways) }
-    ensures { result ≡ with_cache t (replace_in t.config.replacement set start ways e (cache_of t)) }
+// The slot that a full set gives up.
+#[tactic(auto, unfolding(tlb::specs::Cache::victim_in))]
+fn victim(t: &mut Tlb, row: Row) -> usize
+    ensures within { result < 128 }
+    ensures at { result ≡ (victim_in t.old.config.replacement row.set row.start row.ways (cache_of t.old)).at }
+    ensures after { t.new ≡ with_cache t.old (victim_in t.old.config.replacement row.set row.start row.ways (cache_of t.old)).cache }
 {
-    let c = t.config;
-    let p = c.replacement;
-    if entry::is_clock(p) {
-        let v = clock_victim(t, set, start, ways);
-        let at = v.at;
-        return store_over(v.tlb, at, e);
+    let policy = t.config.replacement;
+    if entry::is_clock(policy) {
+        clock_victim(t, row)
+    } else {
+        slots::quiet_victim(t.entries, policy, t.age_counter, row.start, row.ways)
     }
-    let es = t.entries;
-    let at = slots::quiet_victim(es, p, t.age_counter, start, ways);
-    store_over(t, at, e)
+}
+
+// The entry over the victim's, and the eviction counted.
+#[tactic(auto, unfolding(tlb::specs::Cache::replace_in, tlb::specs::Cache::evicted))]
+fn replace(t: &mut Tlb, row: Row, e: TlbEntry)
+    ensures { t.new ≡ with_cache t.old (replace_in t.old.config.replacement row.set row.start row.ways e (cache_of t.old)) }
+{
+    let at = victim(t, row);
+    t.stats.evictions = t.stats.evictions.wrapping_add(1);
+    store(t, at, e);
 }
 
 // A page that the set does not hold: the first free slot, or one that is given up.
-fn install_new(t: Tlb, set: usize, start: usize, ways: usize, e: entry::TlbEntry) -> Tlb
-    requires { (set < 128) × (start + ways ≤ 128) × (0 < ways) }
-    ensures { result ≡ with_cache t (install_new t.config.replacement set start ways e (cache_of t)) }
+fn install_new(t: &mut Tlb, row: Row, e: TlbEntry)
+    ensures { t.new ≡ with_cache t.old (install_new t.old.config.replacement row.set row.start row.ways e (cache_of t.old)) }
 {
-    let es = t.entries;
-    let s = slots::first_slot(es, start, start + ways, true, 0, 0);
-    let slots::Slot::At(i) = s else {
-        return replace(t, set, start, ways, e);
-    };
-    store(t, i, e)
+    match slots::first_slot(
+        t.entries,
+        row.start,
+        row.start + row.ways,
+        |slot| !slot.valid,
+    ) {
+        Some(i) => store(t, i, e),
+        None => replace(t, row, e),
+    }
 }
 
 // The entry goes to the slot that already answers for its page, else to a new one.
-pub fn install(t: Tlb, e: entry::TlbEntry) -> Tlb
+pub fn install(t: Tlb, e: TlbEntry) -> Tlb
     requires { Geo t }
     ensures { result ≡ tlb_install t e }
 {
     let ways = entry::ways_of(t.config.associativity);
     let set = entry::set_for(t.sets, e.vpn, e.mask_bits);
     let start = set * ways;
-    let es = t.entries;
-    let s = slots::first_slot(es, start, start + ways, false, e.vpn, e.asid);
-    let slots::Slot::At(i) = s else {
-        return install_new(t, set, start, ways, e);
-    };
-    store(t, i, e)
+    let row = Row { set, start, ways };
+    let mut u = t;
+    match slots::first_slot(
+        u.entries,
+        start,
+        start + ways,
+        |slot| entry::matches(*slot, e.vpn, e.asid),
+    ) {
+        Some(i) => store(&mut u, i, e),
+        None => install_new(&mut u, row, e),
+    }
+    u
 }

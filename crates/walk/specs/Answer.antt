@@ -1,5 +1,7 @@
 -- What a walk answers and what it leaves in RAM, read off its verdict.
-use Rattle.std.specs.Prelude.{ℕ, ◌+◌, List, cond, eqb}
+use Rattle.std.specs.Prelude.{ℕ, ◌+◌, List, cond, eqb, Err, Ok, Result}
+use Rattle.scheme.specs.declared.refusal.Refusal.{Refusal}
+use Rattle.walk.specs.declared.Fault.{Fault}
 use Rattle.bits.specs.Bits.{with_bit, with_low}
 use Rattle.pte.specs.Entry.{perms_of, global_bit, ppn_of, a_place, d_place}
 use Rattle.memory.specs.Word.{put_at}
@@ -14,13 +16,8 @@ use Rattle.walker.specs.Descent.{frame, top_ok}
 use Rattle.walk.specs.Verdict.{walk_of}
 use Rattle.walk.specs.declared.Access.{Access}
 use Rattle.walk.specs.declared.LeafAt.{LeafAt}
-use Rattle.walk.specs.declared.Verdict.{Verdict}
-use Rattle.walk.specs.declared.Verdict.TheVariants.{Page, Fault}
 use Rattle.walk.specs.declared.WalkResult.{WalkResult}
-use Rattle.walk.specs.declared.Walked.TheVariants.{Ok, Err}
 use Rattle.walk.specs.declared.WalkAnswer.{WalkAnswer}
-use Rattle.walk.specs.declared.Reply.{Reply}
-use Rattle.walk.specs.declared.Reply.TheVariants.{Done, Refused}
 
 -- ---- the marks
 
@@ -35,9 +32,9 @@ unfoldable pub mark_in : Format → AccessType → List ℕ → ℕ → ℕ → 
 mark_in f kind ram a w = cond (eqb (mark_of kind w) w) ram (put_at f.bytes ram a (mark_of kind w))
 
 -- what a walk leaves in RAM
-abbrev pub marked_by : Format → AccessType → List ℕ → Verdict → List ℕ
-marked_by f kind ram (Page l) = mark_in f kind ram l.at l.raw
-marked_by f kind ram (Fault why level) = ram
+abbrev pub marked_by : Format → AccessType → List ℕ → Result LeafAt Fault → List ℕ
+marked_by f kind ram (Ok l) = mark_in f kind ram l.at l.raw
+marked_by f kind ram (Err stop) = ram
 
 -- ---- the answer
 
@@ -62,23 +59,23 @@ result_of f va l =
 abbrev pub words_to : Format → ℕ → ℕ → ℕ
 words_to f va level = cond (top_ok f va) (level + 1) 0
 
-abbrev pub words_of : Format → ℕ → Verdict → ℕ
-words_of f va (Page l) = l.level + 1
-words_of f va (Fault why level) = words_to f va level
+abbrev pub words_of : Format → ℕ → Result LeafAt Fault → ℕ
+words_of f va (Ok l) = l.level + 1
+words_of f va (Err stop) = words_to f va stop.level
 
 -- "Causes: fetch 12, load 13, store 15, with the virtual address"
-abbrev pub answer_of : Format → Access → Verdict → WalkAnswer
-answer_of f q (Page l) = record { words = words_of f q.vaddr (Page l); answer = Ok (result_of f q.vaddr l) }
-answer_of f q (Fault why level) =
+abbrev pub answer_of : Format → Access → Result LeafAt Fault → WalkAnswer
+answer_of f q (Ok l) = record { words = words_of f q.vaddr (Ok l); answer = Ok (result_of f q.vaddr l) }
+answer_of f q (Err stop) =
     record {
-      words = words_of f q.vaddr (Fault why level);
+      words = words_of f q.vaddr (Err stop);
       answer = Err (record { cause = cause_of q.kind; vaddr = q.vaddr });
     }
 
 -- ---- the published walk: refusal 1, "given exactly when": "the scheme is not valid", with RAM as it was
 
-unfoldable pub walk_reply : PagingScheme → ℕ → List ℕ → Access → Reply
-walk_reply s root ram q = cond (valid_of s) (Done (answer_of (format_of s) q (walk_of s root ram q))) (Refused BadScheme)
+unfoldable pub walk_reply : PagingScheme → ℕ → List ℕ → Access → Result WalkAnswer Refusal
+walk_reply s root ram q = cond (valid_of s) (Ok (answer_of (format_of s) q (walk_of s root ram q))) (Err BadScheme)
 
 unfoldable pub walk_ram : PagingScheme → ℕ → List ℕ → Access → List ℕ
 walk_ram s root ram q = cond (valid_of s) (marked_by (format_of s) q.kind ram (walk_of s root ram q)) ram

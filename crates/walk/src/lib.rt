@@ -10,7 +10,7 @@ ghost use Rattle.walk.specs.Answer.{mark_of, mark_in, marked_by, physical_of, re
 
 use pte::{Pte, PtePerms};
 use scheme::{AccessType, Format, PagingScheme, PrivMode, Refusal};
-use walker::{Descent, End, Reason};
+use walker::{Descent, Reason};
 
 // Who asks: the address, the kind of access and the privilege that goes with it.
 #[derive(Clone, Copy)]
@@ -29,11 +29,11 @@ pub struct LeafAt {
     pub level: u8,
 }
 
-// Where a walk ends: at a page that the access may use, or at a fault with its reason and level.
+// Why and at which level a walk ends at no page that the access may use.
 #[derive(Clone, Copy)]
-pub enum Verdict {
-    Page(LeafAt),
-    Fault(Reason, u8),
+pub struct Fault {
+    pub why: Reason,
+    pub level: u8,
 }
 
 // What a walk gives: the address, the frame, the page's size in bits, its rights, and the level of the leaf.
@@ -53,24 +53,11 @@ pub struct PageFault {
     pub vaddr: u64,
 }
 
-#[derive(Clone, Copy)]
-pub enum Walked {
-    Ok(WalkResult),
-    Err(PageFault),
-}
-
 // A walk's answer, and how many words it asked for.
 #[derive(Clone, Copy)]
 pub struct WalkAnswer {
     pub words: u32,
-    pub answer: Walked,
-}
-
-// What a walk on any scheme comes to. A refusal asks for no word.
-#[derive(Clone, Copy)]
-pub enum Reply {
-    Done(WalkAnswer),
-    Refused(Refusal),
+    pub answer: Result<WalkResult, PageFault>,
 }
 
 // Whether the entry has the right that the access needs.
@@ -96,40 +83,40 @@ pub fn open_to(p: PtePerms, mode: PrivMode) -> bool
 }
 
 // What the leaf comes to for the access: right, then privilege.
-fn judge_leaf(leaf: LeafAt, access: Access) -> Verdict
+fn judge_leaf(leaf: LeafAt, access: Access) -> Result<LeafAt, Fault>
     ensures { result ≡ leaf_judged access leaf }
 {
     let kind = access.kind;
     let mode = access.mode;
     let p = Pte::new(leaf.raw).perms();
     if !permits(p, kind) {
-        return Verdict::Fault(Reason::NoRight, leaf.level);
+        return Err(Fault {
+            why: Reason::NoRight,
+            level: leaf.level,
+        });
     }
     if !open_to(p, mode) {
-        return Verdict::Fault(Reason::Privilege, leaf.level);
+        return Err(Fault {
+            why: Reason::Privilege,
+            level: leaf.level,
+        });
     }
-    Verdict::Page(leaf)
+    Ok(leaf)
 }
 
 // What a descent comes to for the access.
-pub fn judge(d: Descent, access: Access) -> Verdict
+pub fn judge(d: Descent, access: Access) -> Result<LeafAt, Fault>
     ensures { result ≡ judge_of access d }
 {
-    let end = d.end;
-    let shift = d.shift;
     let level = d.level;
-    match end {
-        End::Stop(why) => Verdict::Fault(why, level),
-        End::Page(raw, at) => {
-            let leaf = LeafAt {
-                raw,
-                at,
-                shift,
-                level,
-            };
-            judge_leaf(leaf, access)
-        }
-    }
+    let leaf = d.end.map_err(|why| Fault { why, level })?;
+    let at = LeafAt {
+        raw: leaf.raw,
+        at: leaf.at,
+        shift: d.shift,
+        level,
+    };
+    judge_leaf(at, access)
 }
 
 // The word with A set, and D for a store.
@@ -202,15 +189,15 @@ pub fn walk_valid(scheme: PagingScheme, root: u64, ram: &mut [u8], access: Acces
     let f = scheme.format();
     let verdict = judge(walker::descend(ram, root, scheme, vaddr), access);
     match verdict {
-        Verdict::Fault(_, level) => {
+        Err(stop) => {
             let cause = kind.page_fault_cause();
-            let words = words_to(f, vaddr, level);
-            let answer = Walked::Err(PageFault { cause, vaddr });
+            let words = words_to(f, vaddr, stop.level);
+            let answer = Err(PageFault { cause, vaddr });
             WalkAnswer { words, answer }
         }
-        Verdict::Page(leaf) => {
+        Ok(leaf) => {
             mark(f, ram, leaf.at, leaf.raw, kind);
-            let answer = Walked::Ok(page(f, leaf, vaddr));
+            let answer = Ok(page(f, leaf, vaddr));
             let words = leaf.level as u32 + 1;
             WalkAnswer { words, answer }
         }
@@ -218,11 +205,16 @@ pub fn walk_valid(scheme: PagingScheme, root: u64, ram: &mut [u8], access: Acces
 }
 
 // The walk on any scheme: refusal 1 where it is not valid, with RAM as it was.
-pub fn walk(scheme: PagingScheme, root: u64, ram: &mut [u8], access: Access) -> Reply
+pub fn walk(
+    scheme: PagingScheme,
+    root: u64,
+    ram: &mut [u8],
+    access: Access,
+) -> Result<WalkAnswer, Refusal>
     ensures { (result ≡ walk_reply scheme root ram.old access) × (ram.new ≡ walk_ram scheme root ram.old access) }
 {
     if scheme.is_valid() {
-        return Reply::Done(walk_valid(scheme, root, ram, access));
+        return Ok(walk_valid(scheme, root, ram, access));
     }
-    Reply::Refused(Refusal::BadScheme)
+    Err(Refusal::BadScheme)
 }

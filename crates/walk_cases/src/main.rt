@@ -5,6 +5,7 @@
 
 use scheme::PagingScheme;
 use script::Step;
+use std::io;
 
 // What walks are made under: the scheme, the root table's frame, and how many bytes of RAM there are.
 #[derive(Clone, Copy)]
@@ -14,53 +15,35 @@ struct Setting {
     size: usize,
 }
 
-fn walked(t: Setting, ram: &mut [u8], s: Step) {
-    let n = t.size;
-    let scheme = t.scheme;
-    if n <= ram.len() {
-        tell::walked(
-            &mut ram[..n],
-            scheme,
-            t.root,
-            tell::asked(s.a, s.b, s.c),
-            s.d,
-            s.wide,
-        );
-    }
+fn walked(rt: &impl Print, t: &Setting, ram: &mut [u8], s: Step) -> io::Result<()> {
+    let Some(ram) = ram.get_mut(..t.size) else {
+        return Ok(());
+    };
+    let access = tell::asked(s.a, s.b, s.c);
+    tell::walked(rt, ram, t.scheme, t.root, access, s.d, s.wide)
 }
 
-// Does what a line asks for, and hands back the setting.
-fn perform(t: Setting, ram: &mut [u8], s: Step) -> Setting {
-    let op = s.op;
-    let mut u = t;
-    match op {
-        b'#' => (),
-        b'z' => tell::clear(ram),
+// Does what a line asks for.
+fn perform(rt: &impl Print, t: &mut Setting, ram: &mut [u8], s: Step) -> io::Result<()> {
+    match s.op {
+        b'z' => ram.fill(0),
         b'w' => tell::put(ram, s.a, s.b, s.wide),
-        b'a' => walked(t, ram, s),
-        b'p' => u.scheme = tell::scheme_of(s.a, s.b, s.c),
-        b'r' => u.root = s.a,
-        b'm' => u.size = s.a as usize,
-        _ => script::bad_line(),
+        b'a' => walked(rt, t, ram, s)?,
+        b'p' => t.scheme = tell::scheme_of(s.a, s.b, s.c),
+        b'r' => t.root = s.a,
+        b'm' => t.size = s.a as usize,
+        _ => script::bad_line(rt)?,
     }
-    u
+    Ok(())
 }
 
-// Nothing says that the script ends, so the loop counts its turns down, from a number that no run uses up.
-fn main() {
-    let mut ram = io::large_buffer();
+// A failed write ends the run and is not reported.
+fn main(rt: HostRuntime) {
+    let mut ram = [0u8; 65536];
     let mut t = Setting {
         scheme: PagingScheme::sv32(),
         root: 0,
         size: 0,
     };
-    let mut turns = u64::MAX;
-    while turns > 0 {
-        let s = script::next_step();
-        if s.op == 0 {
-            return;
-        }
-        t = perform(t, &mut ram, s);
-        turns -= 1;
-    }
+    let _ = script::run(&rt, |s| perform(&rt, &mut t, &mut ram, s));
 }

@@ -1,4 +1,5 @@
 -- Which case of the definitions of an entry holds, by what the tests said.
+use Rattle.std.specs.Prelude.{Err}
 use Prim.Native.Nat.{ℕ, ◌-◌, ◌%◌, ◌^◌}
 use mathlib.Core.Path.{◌≡◌, sym, ◌∙◌}
 use mathlib.Core.Bool.{true, false, not}
@@ -10,7 +11,6 @@ use Rattle.walker.specs.Descent.{bad_if, leaf_is, entry_is, met_at, ended, seek,
 use Rattle.scheme.specs.Scheme.{shift_of}
 use Rattle.scheme.specs.declared.Format.{Format}
 use Rattle.walker.specs.declared.Reason.TheVariants.{Unreadable, Invalid, WriteOnly, Misaligned, WrongTop, HighBits}
-use Rattle.walker.specs.declared.End.TheVariants.{Stop}
 use Rattle.walker.specs.declared.Met.TheVariants.{Bad, Table, Leaf}
 
 -- a test of a call's answer x, where the call ensures that x is y
@@ -57,7 +57,7 @@ module _ (f : Format) (ram : List ℕ) (shift a : ℕ) where
   is_entry e = rw e
 
 module _ (f : Format) (ram : List ℕ) (va offset : ℕ) (ws : List ℕ) (root : ℕ) where
-  pub wrong_top : top_ok f va ≡ false → ended (Stop WrongTop) (shift_of offset ws 0) 0 ≡ descent_in f ram va offset ws root
+  pub wrong_top : top_ok f va ≡ false → ended (Err WrongTop) (shift_of offset ws 0) 0 ≡ descent_in f ram va offset ws root
   unfolding descent_in
   wrong_top e = rw e
 

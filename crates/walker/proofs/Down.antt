@@ -1,4 +1,5 @@
 -- One level down: what the walk's definition does with the first of the widths that are left.
+use Rattle.std.specs.Prelude.{Err}
 use Prim.Native.Nat.{ℕ, ◌+◌, ◌-◌}
 use mathlib.Core.Path.{◌≡◌, refl}
 use mathlib.Core.List.{List, [], ◌∷◌}
@@ -6,7 +7,6 @@ use Rattle.scheme.specs.Scheme.{total}
 use Rattle.scheme.specs.declared.Format.{Format}
 use Rattle.walker.specs.Descent.{entry_at, met_at, follow, seek, ended}
 use Rattle.walker.specs.declared.Met.{Met}
-use Rattle.walker.specs.declared.End.TheVariants.{Stop}
 use Rattle.walker.specs.declared.Reason.TheVariants.{OutOfLevels}
 
 module _ (f : Format) (ram : List ℕ) (va offset : ℕ) where
@@ -15,6 +15,6 @@ module _ (f : Format) (ram : List ℕ) (va offset : ℕ) where
   unfolding seek
   seek_cons w ws level t s a m e g h = simp (h, g, e)
 
-  pub seek_none : (level t : ℕ) → seek f ram va offset [] level t ≡ ended (Stop OutOfLevels) offset (level - 1)
+  pub seek_none : (level t : ℕ) → seek f ram va offset [] level t ≡ ended (Err OutOfLevels) offset (level - 1)
   unfolding seek
   seek_none level t = refl

@@ -1,4 +1,6 @@
 -- Where a walk can end, for every format, every list of widths and every RAM: at a leaf that was read there, and within the levels.
+use Rattle.std.specs.Prelude.{Err, Ok, Result}
+use Rattle.walker.specs.declared.LeafWord.{LeafWord}
 use Prim.Native.Nat.{ℕ, ◌+◌, ◌<◌}
 use native.Mathlib.Omega.{arith}
 use mathlib.Core.Path.{◌≡◌, refl, sym, ap, subst, ◌∙◌}
@@ -16,8 +18,6 @@ use Rattle.walker.specs.declared.Reason.{Reason}
 use Rattle.walker.specs.declared.Met.{Met}
 use Rattle.walker.specs.declared.Met.TheVariants.{Bad, Table, Leaf}
 use Rattle.walker.specs.declared.Descent.{Descent}
-use Rattle.walker.specs.declared.End.TheVariants.{Page, Stop}
-use Rattle.walker.specs.declared.End.{End}
 
 -- ---- an entry that is a leaf has passed every check
 
@@ -64,9 +64,9 @@ module _ (f : Format) where
       }
 
   -- what holds of a word and its address, if the walk ends at a page
-  abbrev pub OfPage : (ℕ → ℕ → Type 0) → End → Type 0
-  OfPage P (Page w a) = P w a
-  OfPage P (Stop why) = Unit
+  abbrev pub OfPage : (ℕ → ℕ → Type 0) → Result LeafWord Reason → Type 0
+  OfPage P (Ok leaf) = P leaf.raw leaf.at
+  OfPage P (Err why) = Unit
 
   module _ (P : ℕ → ℕ → Type 0) where
     follow_page : (m : Met) (s level : ℕ) (go : ℕ → Descent)
@@ -93,7 +93,7 @@ module _ (f : Format) where
   unfolding descent_in
   whole P ram va offset ws root h = go (top_ok f va)
     where
-      go : (b : Bool) → OfPage P (cond b (seek f ram va offset ws 0 root) (ended (Stop WrongTop) (shift_of offset ws 0) 0)).end
+      go : (b : Bool) → OfPage P (cond b (seek f ram va offset ws 0 root) (ended (Err WrongTop) (shift_of offset ws 0) 0)).end
       go true = h
       go false = tt
 

@@ -1,6 +1,7 @@
 -- The descent of the privileged manual's walk ("Virtual Address Translation Process", steps numbered as there), over the format of the
 -- tables and the list of index widths. It only reads, and asks nothing about who asks.
-use Rattle.std.specs.Prelude.{ℕ, ◌+◌, ◌-◌, ◌*◌, ◌/◌, ◌%◌, ◌^◌, List, [], ◌∷◌, Bool, true, false, not, cond, ◌||◌, eqb}
+use Rattle.std.specs.Prelude.{ℕ, ◌+◌, ◌-◌, ◌*◌, ◌/◌, ◌%◌, ◌^◌, List, [], ◌∷◌, Bool, true, false, not, cond, ◌||◌, eqb, Err, Ok, Result}
+use Rattle.walker.specs.declared.LeafWord.{LeafWord}
 use Rattle.bits.specs.Bits.{field_of}
 use Rattle.pte.specs.Entry.{valid_bit, perms_of, leaf_of, reserved, high_bits, ppn_of}
 use Rattle.memory.specs.Word.{readable, le_at}
@@ -11,17 +12,15 @@ use Rattle.walker.specs.declared.Reason.{Reason}
 use Rattle.walker.specs.declared.Reason.TheVariants.{Unreadable, Invalid, WriteOnly, Misaligned, OutOfLevels, WrongTop, HighBits}
 use Rattle.walker.specs.declared.Met.{Met}
 use Rattle.walker.specs.declared.Met.TheVariants.{Bad, Table, Leaf}
-use Rattle.walker.specs.declared.End.{End}
-use Rattle.walker.specs.declared.End.TheVariants.{Page, Stop}
 use Rattle.walker.specs.declared.Descent.{Descent}
 
-abbrev pub ended : End → ℕ → ℕ → Descent
+abbrev pub ended : Result LeafWord Reason → ℕ → ℕ → Descent
 ended e shift level = record { end = e; shift = shift; level = level }
 
 -- where the descent ends, once it has met m at a level; `go` goes on from the next table's frame
 unfoldable pub follow : Met → ℕ → ℕ → (ℕ → Descent) → Descent
-follow (Bad why) shift level go = ended (Stop why) shift level
-follow (Leaf w a) shift level go = ended (Page w a) shift level
+follow (Bad why) shift level go = ended (Err why) shift level
+follow (Leaf w a) shift level go = ended (Ok (record { raw = w; at = a })) shift level
 follow (Table t) shift level go = go t
 
 -- the stop `why` if a test says so, and else what comes next
@@ -71,7 +70,7 @@ module _ (f : Format) where
   -- down the widths that are left, from the table in the frame t at a level; step 1 is the start, at level 0 and the root's frame.
   -- Step 4: "A pointer at the last level faults", and that is at the last level and its shift, the offset
   unfoldable pub seek : List ℕ → ℕ → ℕ → List ℕ → ℕ → ℕ → Descent
-  seek ram va offset [] level t = ended (Stop OutOfLevels) offset (level - 1)
+  seek ram va offset [] level t = ended (Err OutOfLevels) offset (level - 1)
   seek ram va offset (w ∷ ws) level t =
       follow (met_at ram (offset + total ws) (entry_at va t (offset + total ws) w)) (offset + total ws) level
       (λ (next : ℕ). seek ram va offset ws (level + 1) next)
@@ -82,7 +81,7 @@ top_ok f va = eqb (va / 2 ^ f.top) 0 || eqb (va / 2 ^ f.top) f.ones
 
 -- the whole descent: the top is "tested as the walk's first step", "10, a wrong address top (level 0)"
 unfoldable pub descent_in : Format → List ℕ → ℕ → ℕ → List ℕ → ℕ → Descent
-descent_in f ram va offset ws root = cond (top_ok f va) (seek f ram va offset ws 0 root) (ended (Stop WrongTop) (shift_of offset ws 0) 0)
+descent_in f ram va offset ws root = cond (top_ok f va) (seek f ram va offset ws 0 root) (ended (Err WrongTop) (shift_of offset ws 0) 0)
 
 -- the descent for va from the root table's frame, in the scheme's format
 unfoldable pub descent_of : List ℕ → ℕ → PagingScheme → ℕ → Descent

@@ -1,2 +1,3 @@
 pub mod Descent
 pub mod Found
+pub mod Reason

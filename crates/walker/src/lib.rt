@@ -1,15 +1,16 @@
 // The descent of a page-table walk over a scheme of one to four levels. It only reads, and asks nothing about who asks.
 #![tactic(auto)]
 
-ghost use Rattle.std.specs.Prelude.{◌≡◌, true, ◌-◌, ◌%◌, ◌^◌, ◌<◌, ◌≤◌, eqb};
+ghost use Rattle.std.specs.Prelude.{◌≡◌, true, ◌-◌, ◌%◌, ◌^◌, ◌<◌, ◌≤◌, eqb, Some};
 ghost use Rattle.scheme.specs.Scheme.{valid_of, widths_of, total_bits, Modest};
 ghost use Rattle.pte.specs.Entry.{reserved};
 ghost use Rattle.walker.specs.Descent.{frame, entry_at, leaf_is, entry_is, met_at, seek, top_ok, descent_of};
 ghost use Rattle.walker.specs.Found.{found_of};
+ghost use Rattle.walker.specs.Reason.{reason_name};
 
-use memory::Word;
 use pte::{Pte, PtePerms};
 use scheme::{Format, PagingScheme, Refusal};
+use std::fmt;
 
 // Why a walk faults: a descent stops for one of the first five, or of the last two.
 #[derive(Clone, Copy)]
@@ -25,6 +26,24 @@ pub enum Reason {
     HighBits,
 }
 
+impl fmt::Display for Reason {
+    ghost output = { λ why. Some (reason_name why) };
+
+    fn fmt<W: fmt::Write>(&self, f: &mut fmt::Formatter<W>) -> fmt::Result {
+        f.write_str(match self {
+            Reason::Unreadable => "not readable",
+            Reason::Invalid => "not valid",
+            Reason::WriteOnly => "W without R",
+            Reason::Misaligned => "misaligned",
+            Reason::OutOfLevels => "out of levels",
+            Reason::NoRight => "no right",
+            Reason::Privilege => "privilege",
+            Reason::WrongTop => "wrong top",
+            Reason::HighBits => "high bits",
+        })
+    }
+}
+
 // What an entry is: no use, the next table's frame, or a leaf, its word and its address.
 #[derive(Clone, Copy)]
 pub enum Met {
@@ -33,24 +52,18 @@ pub enum Met {
     Leaf(u64, u64),
 }
 
-// Where a descent ends: at an aligned leaf, its word and its address, or nowhere.
+// A leaf's word and its address.
 #[derive(Clone, Copy)]
-pub enum End {
-    Page(u64, u64),
-    Stop(Reason),
+pub struct LeafWord {
+    pub raw: u64,
+    pub at: u64,
 }
 
-// What a search for an address answers.
-#[derive(Clone, Copy)]
-pub enum Found {
-    At(Descent),
-    Refused(Refusal),
-}
-
-// The end, with the shift and the level where it stands: all addresses alike from the shift up end there.
+// Where a descent ends: at an aligned leaf, or nowhere. With the shift and the level where that stands: all addresses alike from the shift
+// up end there.
 #[derive(Clone, Copy)]
 pub struct Descent {
-    pub end: End,
+    pub end: Result<LeafWord, Reason>,
     pub shift: u32,
     pub level: u8,
 }
@@ -126,7 +139,7 @@ fn met_at(f: Format, ram: &[u8], at: u64, shift: u32) -> Met
     requires { Modest f × (12 ≤ shift) }
     ensures { result ≡ met_at f ram.now shift at }
 {
-    let Word::Is(raw) = memory::load(ram, at, f.bytes, f.space) else {
+    let Some(raw) = memory::load(ram, at, f.bytes, f.space) else {
         return Met::Bad(Reason::Unreadable);
     };
     entry_is(Pte::new(raw), at, shift)
@@ -140,34 +153,23 @@ fn go_down(f: Format, ram: &[u8], root: u64, scheme: PagingScheme, bits: u32, va
     let n = scheme.levels;
     let mut shift = bits;
     let mut table = root;
-    let mut level: u8 = 0;
-    while level < n {
-        let i = level as usize;
-        let width = scheme.level_bits[i] as u32;
+    for level in 0..n {
+        let width = scheme.level_bits[level as usize] as u32;
         shift -= width;
         let met = met_at(f, ram, entry_at(f, vaddr, table, shift, width), shift);
-        match met {
-            Met::Bad(why) => {
-                return Descent {
-                    end: End::Stop(why),
-                    shift,
-                    level,
-                };
+        let end = match met {
+            Met::Bad(why) => Err(why),
+            Met::Leaf(raw, at) => Ok(LeafWord { raw, at }),
+            Met::Table(next) => {
+                table = next;
+                continue;
             }
-            Met::Leaf(raw, at) => {
-                return Descent {
-                    end: End::Page(raw, at),
-                    shift,
-                    level,
-                };
-            }
-            Met::Table(next) => table = next,
-        }
-        level += 1;
+        };
+        return Descent { end, shift, level };
     }
     let last = n - 1;
     Descent {
-        end: End::Stop(Reason::OutOfLevels),
+        end: Err(Reason::OutOfLevels),
         shift,
         level: last,
     }
@@ -189,7 +191,7 @@ pub fn descend(ram: &[u8], root: u64, scheme: PagingScheme, vaddr: u64) -> Desce
     let f = scheme.format();
     if !top_ok(f, vaddr) {
         return Descent {
-            end: End::Stop(Reason::WrongTop),
+            end: Err(Reason::WrongTop),
             shift: scheme.shift_below(0),
             level: 0,
         };
@@ -198,11 +200,11 @@ pub fn descend(ram: &[u8], root: u64, scheme: PagingScheme, vaddr: u64) -> Desce
 }
 
 // The descent for `vaddr`, on any scheme: refusal 1 where it is not valid.
-pub fn find(ram: &[u8], root: u64, scheme: PagingScheme, vaddr: u64) -> Found
+pub fn find(ram: &[u8], root: u64, scheme: PagingScheme, vaddr: u64) -> Result<Descent, Refusal>
     ensures { result ≡ found_of ram.now root scheme vaddr }
 {
     if scheme.is_valid() {
-        return Found::At(descend(ram, root, scheme, vaddr));
+        return Ok(descend(ram, root, scheme, vaddr));
     }
-    Found::Refused(Refusal::BadScheme)
+    Err(Refusal::BadScheme)
 }

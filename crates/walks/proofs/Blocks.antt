@@ -1,4 +1,5 @@
 -- Addresses alike from the end's shift up go down the same way. For every format, every list of widths and every RAM.
+use Rattle.std.specs.Prelude.{Err}
 use Prim.Native.Nat.{ℕ, ◌+◌, ◌-◌, ◌/◌, ◌%◌, ◌^◌, ◌≤◌, ◌<◌}
 use native.Mathlib.Nat.{le_refl, le_trans, lt_of_le_of_lt}
 use native.Mathlib.Omega.{arith}
@@ -14,7 +15,6 @@ use Rattle.scheme.proofs.Widths.{valid, top_shift}
 use Rattle.scheme.specs.declared.Format.{Format}
 use Rattle.walker.specs.Descent.{place, entry_at, met_at, follow, seek, ended, top_ok, descent_in, descent_of}
 use Rattle.walker.specs.declared.Reason.TheVariants.{WrongTop}
-use Rattle.walker.specs.declared.End.TheVariants.{Stop}
 use Rattle.walker.specs.declared.Met.{Met}
 use Rattle.walker.specs.declared.Met.TheVariants.{Bad, Table, Leaf}
 use Rattle.walker.specs.declared.Descent.{Descent}
@@ -93,7 +93,7 @@ module _ (f : Format) (ram : List ℕ) (offset : ℕ) where
 
 module _ (f : Format) (ram : List ℕ) (offset : ℕ) (ws : List ℕ) (root : ℕ) where
   abbrev wrong : Descent
-  wrong = ended (Stop WrongTop) (shift_of offset ws 0) 0
+  wrong = ended (Err WrongTop) (shift_of offset ws 0) 0
 
   -- where the descent ends, by what the top's test says
   abbrev by : ℕ → Bool → Descent

@@ -1,4 +1,9 @@
 -- Marks change no walk: RAM with a leaf's word marked differs from what it was in A and D alone, so every walk over it ends alike.
+use Rattle.std.specs.Prelude.{Err, Ok, Result}
+use Rattle.walk.specs.declared.Fault.{Fault}
+use Rattle.walk.specs.declared.LeafAt.{LeafAt}
+use Rattle.walker.specs.declared.LeafWord.{LeafWord}
+use Rattle.walker.specs.declared.Reason.{Reason}
 use Prim.Native.Nat.{ℕ, suc, ◌+◌, ◌*◌, ◌/◌, ◌%◌, ◌^◌, ◌≤◌, ◌<◌, ◌∣◌}
 use native.Mathlib.Nat.{mod-lt, pow-succ'}
 use native.Mathlib.Decide.{dec_lt}
@@ -17,13 +22,10 @@ use Rattle.scheme.specs.declared.access.AccessType.{AccessType}
 use Rattle.scheme.specs.declared.access.AccessType.TheVariants.{Fetch, Load, Store}
 use Rattle.scheme.specs.declared.Format.{Format}
 use Rattle.walker.specs.Descent.{descent_in}
-use Rattle.walker.specs.declared.End.{End}
 use Rattle.walker.proofs.Ends.{Read, OfPage, of_page, whole, met_leaf, met_at_lem}
 use Rattle.walk.specs.Answer.{mark_of, mark_in, marked_by}
 use Rattle.walk.specs.Verdict.{end_judged, judge_of, verdict_in}
 use Rattle.walk.specs.declared.Access.{Access}
-use Rattle.walk.specs.declared.Verdict.{Verdict}
-use Rattle.walk.specs.declared.Verdict.TheVariants.{Page, Fault}
 use Rattle.walk.proofs.Judged.{end_page}
 use Rattle.walks.specs.Plain.{plain, Bytes, Sound}
 use Rattle.walks.proofs.Steady.{Same, entry_aligned}
@@ -112,9 +114,9 @@ module _ (f : Format) (o : Sound f) (ram : List ℕ) (small : Bytes ram) (q : Ac
   abbrev Marked : ℕ → ℕ → Type 0
   Marked w a = Read f ram w a × (f.bytes ∣ a)
 
-  marked_same : (shift level : ℕ) (e : End) → OfPage f Marked e → (v : Verdict) → end_judged q shift level e ≡ v → Same f ram (marked_by f q.kind ram v)
-  marked_same shift level e h (Fault why k) p = same_self f ram
-  marked_same shift level e h (Page l) p =
+  marked_same : (shift level : ℕ) (e : Result LeafWord Reason) → OfPage f Marked e → (v : Result LeafAt Fault) → end_judged q shift level e ≡ v → Same f ram (marked_by f q.kind ram v)
+  marked_same shift level e h (Err stop) p = same_self f ram
+  marked_same shift level e h (Ok l) p =
       let m = subst (OfPage f Marked) (end_page q shift level e l p) h in
       mark_same f o q.kind ram small l.at m.1 (readable_in f.space f.bytes ram l.at m.0.in_ram) l.raw m.0.word
 

@@ -1,5 +1,6 @@
 -- Marks change no walk: where two RAMs differ in A and D bits of aligned words alone, every walk ends alike in both.
 -- For every format whose entry size divides a page and the address space.
+use Rattle.std.specs.Prelude.{Err}
 use Prim.Native.Nat.{ℕ, ◌+◌, ◌/◌, ◌%◌, ◌^◌, ◌<◌, ◌∣◌}
 use native.Mathlib.Nat.{dvd-add, dvd-mul_right, dvd-mul_left_of_dvd, dvd-mod_iff}
 use native.Mathlib.Omega.{arith}
@@ -17,7 +18,6 @@ use Rattle.scheme.specs.declared.Format.{Format}
 use Rattle.walker.specs.Descent.{frame, place, entry_at, bad_if, leaf_is, entry_is, met_at, follow, seek, ended, top_ok, descent_in}
 use Rattle.walker.specs.declared.Reason.{Reason}
 use Rattle.walker.specs.declared.Reason.TheVariants.{WrongTop}
-use Rattle.walker.specs.declared.End.TheVariants.{Stop}
 use Rattle.walker.specs.declared.Met.{Met}
 use Rattle.walker.specs.declared.Met.TheVariants.{Bad, Table, Leaf}
 use Rattle.walker.specs.declared.Descent.{Descent}
@@ -128,7 +128,7 @@ module _ (f : Format) (o : Sound f) (ram ram' : List ℕ) (same : Same f ram ram
   descent_same va offset ws root = go (top_ok f va)
     where
       wrong : Descent
-      wrong = ended (Stop WrongTop) (shift_of offset ws 0) 0
+      wrong = ended (Err WrongTop) (shift_of offset ws 0) 0
 
       go : (b : Bool) → plain_descent (cond b (seek f ram va offset ws 0 root) wrong) ≡ plain_descent (cond b (seek f ram' va offset ws 0 root) wrong)
       go true = seek_same va offset ws 0 root

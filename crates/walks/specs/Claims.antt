@@ -1,5 +1,5 @@
 -- What holds of every walk, for every table format, list of widths, RAM, asker and address. proofs/Claims.antt has a proof of each.
-use Rattle.std.specs.Prelude.{ℕ, ◌+◌, ◌*◌, ◌/◌, ◌%◌, ◌^◌, ◌≤◌, ◌<◌, ◌≡◌, List, ◌∷◌, true, false, length}
+use Rattle.std.specs.Prelude.{ℕ, ◌+◌, ◌*◌, ◌/◌, ◌%◌, ◌^◌, ◌≤◌, ◌<◌, ◌≡◌, List, ◌∷◌, true, false, length, Ok}
 use Rattle.bits.specs.Bits.{bit, field_of}
 use Rattle.pte.specs.Entry.{ppn_of, high_bits}
 use Rattle.memory.specs.Word.{readable, le_at}
@@ -13,7 +13,6 @@ use Rattle.walk.specs.Answer.{words_of, marked_by, physical_of}
 use Rattle.walk.specs.Verdict.{verdict_in, walk_of}
 use Rattle.walk.specs.declared.Access.{Access}
 use Rattle.walk.specs.declared.LeafAt.{LeafAt}
-use Rattle.walk.specs.declared.Verdict.TheVariants.{Page}
 use Rattle.walks.specs.Asked.{all_asked}
 use Rattle.walks.specs.Plain.{plain_descent, plain_verdict, Bytes, Sound}
 
@@ -55,7 +54,7 @@ WordsAsked =
 abbrev pub LeafIsRead : Type 0
 LeafIsRead =
     (f : Format) (offset : ℕ) (ws : List ℕ) (root : ℕ) (ram : List ℕ) (q : Access) (l : LeafAt)
-    → verdict_in f offset ws root ram q ≡ Page l
+    → verdict_in f offset ws root ram q ≡ Ok l
     → (readable f.space f.bytes ram l.at ≡ true) × (le_at f.bytes ram l.at ≡ l.raw)
 
 -- ---- the marks

@@ -3,31 +3,28 @@
 use mathlib.Core.Path.{◌≡◌, refl, sym, ◌∙◌}
 use mathlib.Core.List.{List, [], ◌++◌, append_assoc, append-nil}
 use Prim.Native.Nat.{ℕ, ◌+◌, ◌≤◌}
-use lib.ListN.{length}
-use Rattle.writer.specs.Put.{Put}
-use Rattle.writer.proofs.Puts as Puts
+use Rattle.writer.specs.Wrote.{Wrote}
+use Rattle.writer.specs.declared.Out.{Out}
+use Rattle.writer.proofs.Wrotes as Wrotes
 
-pub record Going (most : ℕ) (old new : List ℕ) (at r : ℕ) (rest whole : List ℕ) : Type 0 where
+pub record Going (most : ℕ) (old new : Out) (rest whole : List ℕ) : Type 0 where
   pub ys : List ℕ
-  pub put : Put most old new at r ys
+  pub wrote : Wrote most old new ys
   pub all : ys ++ rest ≡ whole
 
-pub start : (l : List ℕ) (at : ℕ) (whole : List ℕ) → Going 0 l l at at whole whole
-start l at whole = record { ys = []; put = Puts.start l at; all = refl }
+pub start : (o : Out) (whole : List ℕ) → Going 0 o o whole whole
+start o whole = record { ys = []; wrote = Wrotes.start o; all = refl }
 
 -- one line more
-pub then : {m k : ℕ} {l₀ l₁ l₂ : List ℕ} {at a b : ℕ} {zs rest whole : List ℕ} → Going m l₀ l₁ at a (zs ++ rest) whole → Put k l₁ l₂ a b zs → Going (m + k) l₀ l₂ at b rest whole
-then {zs = zs} {rest = rest} g p = record { ys = g.ys ++ zs; put = Puts.then g.put p; all = append_assoc g.ys zs rest ∙ g.all }
+pub then : {m k : ℕ} {a b c : Out} {zs rest whole : List ℕ} → Going m a b (zs ++ rest) whole → Wrote k b c zs → Going (m + k) a c rest whole
+then {zs = zs} {rest = rest} g p = record { ys = g.ys ++ zs; wrote = Wrotes.then g.wrote p; all = append_assoc g.ys zs rest ∙ g.all }
 
-pub within : {m k : ℕ} {l l' : List ℕ} {at r : ℕ} {rest whole : List ℕ} → m ≤ k → Going m l l' at r rest whole → Going k l l' at r rest whole
-within h g = record { ys = g.ys; put = Puts.within h g.put; all = g.all }
+pub within : {m k : ℕ} {a b : Out} {rest whole : List ℕ} → m ≤ k → Going m a b rest whole → Going k a b rest whole
+within h g = record { ys = g.ys; wrote = Wrotes.within h g.wrote; all = g.all }
 
 -- the rest by another name, as a definition's next step gives it
-pub as_rest : {m : ℕ} {l l' : List ℕ} {at r : ℕ} {rest rest' whole : List ℕ} → rest ≡ rest' → Going m l l' at r rest whole → Going m l l' at r rest' whole
+pub as_rest : {m : ℕ} {a b : Out} {rest rest' whole : List ℕ} → rest ≡ rest' → Going m a b rest whole → Going m a b rest' whole
 as_rest e g = rw e at g
 
-pub ended : {m : ℕ} {l l' : List ℕ} {at r : ℕ} {whole : List ℕ} → Going m l l' at r [] whole → Put m l l' at r whole
-ended g = Puts.as_text (sym (append-nil g.ys) ∙ g.all) g.put
-
-pub kept : {m : ℕ} {l l' : List ℕ} {at r : ℕ} {rest whole : List ℕ} → Going m l l' at r rest whole → length l' ≡ length l
-kept g = Puts.kept g.put
+pub ended : {m : ℕ} {a b : Out} {whole : List ℕ} → Going m a b [] whole → Wrote m a b whole
+ended g = Wrotes.as_text (sym (append-nil g.ys) ∙ g.all) g.wrote

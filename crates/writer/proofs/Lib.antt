@@ -2,3 +2,4 @@ pub mod Decimals
 pub mod Going
 pub mod Puts
 pub mod Stores
+pub mod Wrotes

@@ -4,9 +4,8 @@ use mathlib.Core.List.{List, [], ◌∷◌, ◌++◌}
 use Prim.Native.Nat.{ℕ, zero, suc, ◌+◌, ◌-◌, ◌/◌, ◌%◌, ◌<◌, ◌≤◌}
 use native.Mathlib.Nat.{add-zero, not-suc-le-zero}
 use native.Mathlib.Omega.{arith}
-use native.Mathlib.Numerals.{add-one}
-use lib.ListN.{length, set, take, get_or, length-append}
-use lib.Seq.{sets, set_comm, take-suc, length-take-le}
+use lib.ListN.{length, set, length-append}
+use lib.Seq.{sets, set_comm}
 use Rattle.writer.specs.Digits.{glyph, hex_digits}
 
 pub sets_append : (xs : List ℕ) (at : ℕ) (ys zs : List ℕ) → sets (sets xs at ys) (at + length ys) zs ≡ sets xs at (ys ++ zs)
@@ -39,8 +38,3 @@ hex_last xs at (suc k) n h =
     rw e
     (set_first xs at (hex_digits k (n / 16)) (at + k) (glyph (n % 16)) (omega arith)
     ∙ sets_then xs at (hex_digits k (n / 16)) (glyph (n % 16) ∷ []) k d)
-
--- one byte more of a word
-pub byte_more : (xs : List ℕ) (at : ℕ) (s : List ℕ) (i : ℕ) → i < length s → set (sets xs at (take i s)) (at + i) (get_or s i 0) ≡ sets xs at (take (i + 1) s)
-byte_more xs at s i h =
-    rw (add-one, take-suc s i 0) (sets_then xs at (take i s) (get_or s i 0 ∷ []) i (length-take-le i s (omega arith)))

@@ -1,29 +1,10 @@
--- `answer_text::put_ok` meets its contract.
-use native.Mathlib.Omega.{arith}
-use Rattle.writer.proofs.Puts.{then, within}
-use borrow.Author.Rules.{rules}
+-- `answer_text::put_ok` meets its contract: a stall has at most three digits.
+use Rattle.std.proofs.Common.{arith}
+use Rattle.writer.proofs.Decimals.{three}
+use Rattle.writer.proofs.Wrotes.{then, within}
 use Rattle.answer_text.proofs.put_ok.Goals as goal
-
-pub put_hex-a-requires : goal.put_hex-a-requires
-put_hex-a-requires c = search rules
-
-pub put_bytes-b-requires : goal.put_bytes-b-requires
-put_bytes-b-requires c = search rules
-
-pub put_hex-c-requires : goal.put_hex-c-requires
-put_hex-c-requires c = search rules
-
-pub put_small-d-requires : goal.put_small-d-requires
-put_small-d-requires c = search rules
-
-pub put_bytes-requires : goal.put_bytes-requires
-put_bytes-requires c = search rules
-
-pub shape_of-out : goal.shape_of-out
-shape_of-out c = search rules
 
 pub returns : goal.returns
 returns c =
-    within (omega arith)
-    (then c.put_hex-a.ensures
-    (then c.put_bytes-b.ensures (then c.put_hex-c.ensures (then c.put_small-d.ensures c.put_bytes.ensures))))
+    within (grind (arith, three))
+    (then c.hex.ensures (then c.bytes.ensures (then c.hex-2.ensures (then c.told.ensures c.bytes-2.ensures))))

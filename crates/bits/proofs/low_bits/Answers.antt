@@ -4,7 +4,6 @@ use native.Mathlib.Nat.{mod-lt}
 use native.Mathlib.Omega.{arith}
 use lib.Pow.{pow_pos}
 use Rattle.bits.proofs.Masks.{one_shl, low_mask, whole, whole_lt}
-use borrow.Author.Rules.{rules}
 use Rattle.bits.proofs.low_bits.Goals.{Else-k-gt63}
 use Rattle.bits.proofs.low_bits.Goals as goal
 
@@ -16,9 +15,6 @@ returns-then-k-gt63 c =
 -- the second way has fewer bits than the word
 few : (c : Else-k-gt63) → c.args.k < 64
 few c = omega arith
-
-pub overflow_shl-result : goal.overflow_shl-result
-overflow_shl-result c = search rules
 
 pub overflow_sub-result : goal.overflow_sub-result
 overflow_sub-result c = omega (arith, one_shl 64 c.args.k (few c), pow_pos c.args.k)

@@ -3,22 +3,12 @@ use Prim.Native.Nat.{ℕ, ◌+◌, ◌*◌, ◌/◌, ◌^◌, ◌<◌}
 use mathlib.Core.Path.{ap, ◌∙◌}
 use native.Mathlib.Omega.{arith}
 use Rattle.bits.proofs.Masks.{join, low_whole}
-use borrow.Author.Rules.{rules}
 use Rattle.bits.proofs.with_low.Goals as goal
 
 pub returns-then-k-gt63 : goal.returns-then-k-gt63
 returns-then-k-gt63 c =
     let a = c.args in
     low_whole a.k c.if-k-gt63.true a.x a.y (omega arith) (omega arith)
-
-pub overflow_shr-high : goal.overflow_shr-high
-overflow_shr-high c = search rules
-
-pub overflow_shl-high : goal.overflow_shl-high
-overflow_shl-high c = search rules
-
-pub low_bits-requires : goal.low_bits-requires
-low_bits-requires c = search rules
 
 pub returns : goal.returns
 returns c =

@@ -3,7 +3,6 @@ use native.Mathlib.Omega.{arith}
 use mathlib.Core.Path.{◌∙◌}
 use Rattle.layout.proofs.Fits.{Fits, good_fits}
 use Rattle.bundle.specs.Parts.{parts_of}
-use borrow.Author.Rules.{rules}
 use Rattle.bundle.proofs.parts_of.Goals.{Start}
 use Rattle.bundle.proofs.parts_of.Goals as goal
 
@@ -24,14 +23,8 @@ map_at-map-requires c =
     λ ne. let f = fits (goal.at.map_at-map-requires c).Start in
     omega (arith, f.whole, f.map_len_fits (λ z. ne (c.len_at-map_len.ensures.0 ∙ z)))
 
-pub overflow_add-ram_start : goal.overflow_add-ram_start
-overflow_add-ram_start c = search rules
-
 pub len_at-ram_len-requires : goal.len_at-ram_len-requires
 len_at-ram_len-requires c = omega (arith, (fits (goal.at.len_at-ram_len-requires c).Start).whole)
-
-pub overflow_add-first : goal.overflow_add-first
-overflow_add-first c = search rules
 
 pub len_at-count-requires : goal.len_at-count-requires
 len_at-count-requires c = omega (arith, (fits (goal.at.len_at-count-requires c).Start).whole)

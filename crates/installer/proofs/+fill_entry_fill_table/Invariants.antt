@@ -12,6 +12,3 @@ decreases-fill_table l = 2 * (l.p.scheme.levels - l.level) + 1
 
 abbrev pub invariant-fill_table-loop-idx : goal.invariant-fill_table-loop-idx
 invariant-fill_table-loop-idx l = Turn l.p l.level l.parent l.low l.initial.ram l.ram l.next_free l.idx
-
-abbrev pub decreases-fill_table-loop-idx : goal.decreases-fill_table-loop-idx
-decreases-fill_table-loop-idx l = l.n - l.idx

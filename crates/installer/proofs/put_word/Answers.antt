@@ -8,14 +8,7 @@ use lib.ListN.{length}
 use borrow.Author.Tests.{le-leb}
 use Rattle.memory.specs.Word.{readable}
 use Rattle.memory.proofs.Reading.{stored}
-use borrow.Author.Rules.{rules}
 use Rattle.installer.proofs.put_word.Goals as goal
-
-pub store32-requires : goal.store32-requires
-store32-requires c = search rules
-
-pub shape_of-ram : goal.shape_of-ram
-shape_of-ram c = search rules
 
 in_reach : (ram : List ℕ) (at : ℕ) → at + 4 ≤ length ram → at + 4 ≤ 2 ^ 32 → readable 32 4 ram at ≡ true
 unfolding readable

@@ -1,32 +1,13 @@
--- `records_ok`: the records passed and those that are left make the whole test (`Records`).
-use native.Mathlib.Omega.{arith}
-use mathlib.Core.Path.{refl, ◌∙◌}
-use Rattle.layout.proofs.Records.{next_record, last_record}
+-- `records_ok`: `all` over the records' numbers is the whole test (`Records`).
+use Rattle.std.proofs.Common.{◌∙◌, ◌+◌, ◌*◌, refl, arith, rules, tests}
+use Rattle.std.proofs.lemmas.Iterator.{YieldsList-from_range}
+use Rattle.std.proofs.lemmas.Iterator.Search.{all_from_yields_List}
+use Rattle.layout.specs.Layout.{record_ok}
+use Rattle.layout.proofs.Records.{by_number}
 use Rattle.layout.proofs.records_ok.Goals as goal
-
-pub loop-left-init : goal.loop-left-init
-loop-left-init c = (c.requires, refl)
-
-pub record_ok-ok-requires : goal.record_ok-ok-requires
-record_ok-ok-requires c = omega arith
-
-pub overflow_add-p : goal.overflow_add-p
-overflow_add-p c = omega arith
-
-pub overflow_sub-left : goal.overflow_sub-left
-overflow_sub-left c = omega arith
-
-pub loop-left-smaller : goal.loop-left-smaller
-loop-left-smaller c = omega arith
-
-pub loop-left-preserved : goal.loop-left-preserved
-loop-left-preserved c =
-    let l = c.loop-left in
-    let s = c.args.file.now in
-    let step = next_record s l.p l.left l.ok c.loop-left-test.true in
-    (omega arith, rw c.record_ok-ok.ensures (step ∙ l.invariant.1))
 
 pub returns : goal.returns
 returns c =
-    let l = c.loop-left in
-    last_record c.args.file.now l.p l.left l.ok c.loop-left-test.false ∙ l.invariant.1
+    let a = c.args in
+    all_from_yields_List (λ i. record_ok a.file.now (a.at + 8 * i)) _ _ c.all.result c.all.ensures.ran (YieldsList-from_range 0 a.n a.n refl (omega arith)) (λ x b q k. search (rules, tests))
+    ∙ by_number a.file.now a.at 0 a.n a.at (omega arith)

@@ -1,7 +1,7 @@
 -- `run_session` meets its contract, by the law of `Lending.antt`, at the theorems of the host's five calls.
 -- Assumes nothing.
 use mathlib.Core.Path.{refl}
-use mathlib.Core.List.{[], ◌∷◌}
+use Rattle.std.specs.Prelude.{codes}
 use contract.Running.{tables, tables_of}
 use denote.Struct.Laws as LL
 use denote.Triple.Spec.{triple_of}
@@ -33,11 +33,11 @@ use Rattle.lending.specs.contracts.run_session as run_session
 use Rattle.lending.proofs.run_session.Statement as stated
 use Rattle.lending.proofs.run_session.Code as code
 
--- the program's struct, by its name in the code, as ASCII codes
+-- the program's struct, by its name in the code
 abbrev session : Chain served_both kept_both
 session = record {
   row = Session.the_row;
-  name = 108 ∷ 101 ∷ 110 ∷ 100 ∷ 105 ∷ 110 ∷ 103 ∷ 58 ∷ 58 ∷ 83 ∷ 101 ∷ 115 ∷ 115 ∷ 105 ∷ 111 ∷ 110 ∷ [];
+  name = codes "lending::Session";
   all = λ a b c d e. record { translated = a; dropped = b; flushed = c; adopted = d; restarted = e };
   mir_is = refl;
   lawful = λ 𝓛. LL.lawful Session.the_type Session'.the_laws 𝓛;

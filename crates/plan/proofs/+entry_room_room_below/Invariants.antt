@@ -13,6 +13,3 @@ decreases-room_below l = 2 * (l.p.scheme.levels - l.level) + 1
 -- what was added up so far and what is still to come
 abbrev pub invariant-room_below-loop-idx : goal.invariant-room_below-loop-idx
 invariant-room_below-loop-idx l = (l.sum + room_from l.p l.level l.parent l.idx ≡ room_at l.p l.level l.parent) × (l.idx ≤ l.n)
-
-abbrev pub decreases-room_below-loop-idx : goal.decreases-room_below-loop-idx
-decreases-room_below-loop-idx l = l.n - l.idx

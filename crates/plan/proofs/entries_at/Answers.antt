@@ -8,15 +8,11 @@ use lib.ListN.{get_or}
 use lib.Pow.{shl_exact}
 use Rattle.scheme.proofs.Levels.{width_at_lem, width_high}
 use Rattle.plan.proofs.Laws.{is_valid, entries_bound}
-use borrow.Author.Rules.{rules}
 use Rattle.plan.proofs.entries_at.Goals.{After-w-1}
 use Rattle.plan.proofs.entries_at.Goals as goal
 
 pub bounds-s-i : goal.bounds-s-i
 bounds-s-i c = omega (arith, c.requires.1, (is_valid _ c.requires.0).four)
-
-pub overflow_cast-result : goal.overflow_cast-result
-overflow_cast-result c = search rules
 
 high : (c : After-w-1) → get_or c.args.s.level_bits c.args.level 0 ≤ 12
 high c =

@@ -8,12 +8,8 @@ use Rattle.plan.specs.declared.MapRule.TheVariants.{Relative, Absolute}
 use Rattle.plan.specs.Map.{inherited}
 use Rattle.plan.specs.Levels.{base_at}
 use Rattle.plan.proofs.Laws.{entry_span, base_below}
-use borrow.Author.Rules.{rules}
 use Rattle.plan.proofs.entry_base.Goals.{After-span_at}
 use Rattle.plan.proofs.entry_base.Goals as goal
-
-pub span_at-requires : goal.span_at-requires
-span_at-requires c = search rules
 
 -- under either rule the base lies below the end of the table's range
 small : (c : After-span_at) → c.args.parent + c.args.idx * c.span_at.result ≤ 2 ^ 32
@@ -23,12 +19,6 @@ small c =
 
 pub overflow_mul-own : goal.overflow_mul-own
 overflow_mul-own c = omega (arith, small c)
-
-pub enum_told-1 : goal.enum_told-1
-enum_told-1 c = search rules
-
-pub enum_told-in-Absolute : goal.enum_told-in-Absolute
-enum_told-in-Absolute c = search rules
 
 pub overflow_add-result : goal.overflow_add-result
 overflow_add-result c = omega (arith, small (goal.at.overflow_add-result c).After-span_at)

@@ -3,21 +3,8 @@ use native.Mathlib.Omega.{arith}
 use native.Mathlib.Nat.{div-mul-le_self}
 use Prim.Native.Nat.{◌+◌, ◌*◌, ◌/◌, ◌%◌, ◌≤◌}
 use Rattle.plan.specs.Levels.{leaf_at}
-use borrow.Author.Rules.{rules}
 use Rattle.plan.proofs.leaf_word.Goals.{After-span_at-span}
 use Rattle.plan.proofs.leaf_word.Goals as goal
-
-pub span_at-span-requires : goal.span_at-span-requires
-span_at-span-requires c = search rules
-
-pub overflow_cast-moved : goal.overflow_cast-moved
-overflow_cast-moved c = search rules
-
-pub overflow_add-moved : goal.overflow_add-moved
-overflow_add-moved c = search rules
-
-pub nonzero_div-frame : goal.nonzero_div-frame
-nonzero_div-frame c = search rules
 
 cut : (c : After-span_at-span) → (c.args.base + c.args.p.delta) % 4294967296 / c.span_at-span.result * c.span_at-span.result ≤ (c.args.base + c.args.p.delta) % 4294967296
 cut c = div-mul-le_self _ _

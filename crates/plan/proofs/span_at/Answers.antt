@@ -10,15 +10,8 @@ use Rattle.scheme.specs.Scheme.{shift_of}
 use Rattle.plan.specs.Map.{shift}
 use Rattle.plan.specs.Levels.{below}
 use Rattle.plan.proofs.Laws.{bits_from_lem}
-use borrow.Author.Rules.{rules}
 use Rattle.plan.proofs.span_at.Goals.{After-shift_below-bits}
 use Rattle.plan.proofs.span_at.Goals as goal
-
-pub shift_below-bits-requires : goal.shift_below-bits-requires
-shift_below-bits-requires c = search rules
-
-pub overflow_cast-result : goal.overflow_cast-result
-overflow_cast-result c = search rules
 
 -- the scheme's shift is the plan's
 is_shift : (c : After-shift_below-bits) → c.shift_below-bits.result ≡ shift c.args.p (below c.args.p c.args.level)

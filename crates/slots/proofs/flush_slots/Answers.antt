@@ -1,55 +1,30 @@
--- So far the first k of the slots are as a flush leaves them.
-use borrow.Author.Rules.{rules}
-use Prim.Native.Nat.{◌<◌, ◌+◌}
-use mathlib.Core.Path.{◌≡◌}
-use native.Mathlib.Omega.{arith}
-use lib.ListN.{length}
-use Rattle.entry.specs.Entry.{cleared_of}
-use Rattle.slots.proofs.SlotLaws.{map_none, map_at, map_step}
-use Rattle.slots.proofs.flush_slots.Goals.{Start}
+-- One slot more is as the flush leaves it.
+use Rattle.std.proofs.Common.{◌≡◌, ◌+◌, ◌-◌, set, arith}
+use borrow.Rule.Slice.PartMut.{mid_len, put_mid, put_same}
+use Rattle.entry.specs.declared.TlbEntry.{TlbEntry}
+use Rattle.slots.specs.Slots.{entry_at, cleared_where, map_in}
+use Rattle.slots.proofs.SlotLaws.{map_none, put_step}
+use Rattle.slots.proofs.flush_slots.Goals.{then-goes, else-goes}
 use Rattle.slots.proofs.flush_slots.Goals as goal
 
--- the array has 128 elements
-long : (s : Start) → length s.args.es ≡ 128
-long s = search rules
+pub loop-e-init : goal.loop-e-init
+loop-e-init g c = λ p t. rw (map_none, put_same)
 
-pub loop-k-init : goal.loop-k-init
-loop-k-init c = (search rules, rw map_none)
-
-pub overflow_add-at : goal.overflow_add-at
-overflow_add-at c = omega arith
-
-pub offset_bounds-us-at : goal.offset_bounds-us-at
-offset_bounds-us-at c = omega arith
-
-pub bounds-us-at : goal.bounds-us-at
-bounds-us-at c = omega arith
-
-pub cleared-requires : goal.cleared-requires
-cleared-requires c = search rules
-
-pub offset_bounds-us-at-in-loop-k : goal.offset_bounds-us-at-in-loop-k
-offset_bounds-us-at-in-loop-k c = omega arith
-
-pub bounds-us-at-in-loop-k : goal.bounds-us-at-in-loop-k
-bounds-us-at-in-loop-k c = omega arith
-
-pub overflow_add-k : goal.overflow_add-k
-overflow_add-k c = omega arith
-
-pub loop-k-smaller : goal.loop-k-smaller
-loop-k-smaller c = omega arith
-
-pub loop-k-preserved : goal.loop-k-preserved
-loop-k-preserved c =
-    let l = c.loop-k in
-    let h : c.args.start + l.k < length c.args.es = rw (long (goal.at.loop-k-preserved c).Start) (omega arith) in (
-      omega arith,
-      rw (c.cleared.ensures, l.invariant.1, map_at, map_step (cleared_of c.args.all c.args.vpn) c.args.start l.k c.args.es h),
-    )
+pub loop-e-preserved : goal.loop-e-preserved
+loop-e-preserved g c = λ p t.
+    let a = c.args in
+    let l = c.loop-e in
+    let some = mid_len a.start (a.start + a.n) a.es (omega arith) in
+    let step : (v : TlbEntry) → v ≡ cleared_where p (entry_at l.e-items l.e-index) →
+    put_mid a.start (a.start + a.n - a.start) a.es (set l.e-items l.e-index v) ≡ map_in (cleared_where p) a.start (l.e-index + 1) a.es =
+    λ v q. put_step (cleared_where p) a.start (a.start + a.n - a.start) l.e-index a.es l.e-items v (omega arith) (omega arith) (l.invariant p t) q in
+    elim c.if-goes.branch [
+      | then-goes w ↦ rw w.e-items-is (step _ (rw (← t _ _ c.goes.ensures, w.if-goes.true)))
+      | else-goes w ↦ rw w.e-items-is (step _ (rw (← t _ _ c.goes.ensures, w.if-goes.false)))
+    ]
 
 pub returns : goal.returns
-returns c =
-    let l = c.loop-k in
-    let e : l.k ≡ c.args.n = omega arith in
-    rw (l.invariant.1, e)
+returns g c = λ p t.
+    let some = mid_len c.args.start (c.args.start + c.args.n) c.args.es (omega arith) in
+    let e : c.loop-e.e-index ≡ c.args.n = omega arith in
+    rw e at (c.loop-e.invariant p t)

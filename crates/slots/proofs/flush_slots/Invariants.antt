@@ -1,12 +1,11 @@
--- So far the first k of the slots are as a flush leaves them.
-use Prim.Native.Nat.{◌≤◌, ◌-◌}
-use mathlib.Core.Path.{◌≡◌}
-use Rattle.entry.specs.Entry.{cleared_of}
-use Rattle.slots.specs.Slots.{map_in}
+-- So far the first of the slots are as the flush leaves them.
+use Rattle.std.proofs.Common.{◌≡◌, ◌+◌, ◌-◌, Bool}
+use borrow.Rule.Slice.PartMut.{put_mid}
+use Rattle.entry.specs.declared.TlbEntry.{TlbEntry}
+use Rattle.slots.specs.Slots.{Tells, cleared_where, map_in}
 use Rattle.slots.proofs.flush_slots.Given as goal
 
-abbrev pub invariant-loop-k : goal.invariant-loop-k
-invariant-loop-k l = (l.k ≤ l.n) × (l.us ≡ map_in (cleared_of l.all l.vpn) l.start l.k l.initial.us)
-
-abbrev pub decreases-loop-k : goal.decreases-loop-k
-decreases-loop-k l = l.n - l.k
+abbrev pub invariant-loop-e : goal.invariant-loop-e
+invariant-loop-e g l =
+    (p : TlbEntry → Bool) → Tells g.F.Fn l.goes p →
+    put_mid l.start (l.start + l.n - l.start) l.fn.es l.e-items ≡ map_in (cleared_where p) l.start l.e-index l.fn.es

@@ -1,12 +1,10 @@
--- The classes from k on decide what all of them decide.
-use Rattle.std.proofs.Common.{◌≡◌, ◌-◌, ◌≤◌}
-use lib.Seq.{slice}
+-- The classes that are left decide what all of them decide.
+use Rattle.std.proofs.Common.{◌≡◌, drop, take}
 use Rattle.tlb.specs.Cache.{find_from}
 use Rattle.tlb.specs.State.{shape_of}
 use Rattle.tlb_probe.proofs.find.Given as goal
 
-abbrev pub invariant-loop-k : goal.invariant-loop-k
-invariant-loop-k l = (l.k ≤ l.n) × (find_from (shape_of l.t) (slice 0 l.n l.t.superpage_masks) l.vpn l.asid l.es ≡ find_from (shape_of l.t) (slice l.k l.n l.t.superpage_masks) l.vpn l.asid l.es)
-
-abbrev pub decreases-loop-k : goal.decreases-loop-k
-decreases-loop-k l = l.n - l.k
+abbrev pub invariant-loop-class : goal.invariant-loop-class
+invariant-loop-class l =
+    find_from (shape_of l.t) (shape_of l.t).classes l.vpn l.asid l.t.entries
+    ≡ find_from (shape_of l.t) (drop l.class-index (take l.t.mask_count l.t.superpage_masks)) l.vpn l.asid l.t.entries

@@ -5,7 +5,6 @@ use Rattle.pte.specs.Entry.{perms_of}
 use Rattle.walker.proofs.Cases.{said}
 use Rattle.walk.specs.Rights.{allows, open_to}
 use Rattle.walk.proofs.Judged.{no_right, privilege, allowed}
-use borrow.Author.Rules.{rules}
 use Rattle.walk.proofs.judge_leaf.Goals.{After-open_to, After-permits}
 use Rattle.walk.proofs.judge_leaf.Goals as goal
 
@@ -16,20 +15,8 @@ right_said c = ap not (c.permits.ensures ∙ ap (allows c.args.access.kind) (c.p
 mode_said : (c : After-open_to) → not c.open_to.result ≡ not (open_to c.args.access.mode (perms_of c.args.leaf.raw))
 mode_said c = ap not (c.open_to.ensures ∙ ap (open_to c.args.access.mode) (c.perms-p.ensures ∙ ap perms_of c.new.ensures))
 
-pub new-requires : goal.new-requires
-new-requires c = search rules
-
-pub perms-p-requires : goal.perms-p-requires
-perms-p-requires c = search rules
-
-pub permits-requires : goal.permits-requires
-permits-requires c = search rules
-
 pub returns-then-not-permits : goal.returns-then-not-permits
 returns-then-not-permits c = no_right _ _ (said (right_said (goal.at.returns-then-not-permits c).After-permits) c.if-not-permits.true-raw)
-
-pub open_to-requires : goal.open_to-requires
-open_to-requires c = search rules
 
 pub returns-then-not-open_to : goal.returns-then-not-open_to
 returns-then-not-open_to c = privilege _ _ (said (right_said (goal.at.returns-then-not-open_to c).After-permits) c.if-not-permits.false-raw) (said (mode_said (goal.at.returns-then-not-open_to c).After-open_to) c.if-not-open_to.true-raw)

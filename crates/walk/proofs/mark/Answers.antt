@@ -3,25 +3,12 @@ use mathlib.Core.Path.{◌≡◌, sym, ap, ◌∙◌}
 use Rattle.memory.proofs.Reading.{stored}
 use Rattle.walk.specs.Answer.{mark_of}
 use Rattle.walk.proofs.Marks.{mark_put, mark_keep}
-use borrow.Author.Rules.{rules}
 use Rattle.walk.proofs.mark.Goals.{After-marked-word}
 use Rattle.walk.proofs.mark.Goals as goal
 
 -- the word to be stored is the leaf's with its marks
 is_mark : (c : After-marked-word) → c.marked-word.result.raw ≡ mark_of c.args.kind c.args.raw
 is_mark c = c.marked-word.ensures ∙ ap (mark_of c.args.kind) c.new.ensures
-
-pub new-requires : goal.new-requires
-new-requires c = search rules
-
-pub marked-word-requires : goal.marked-word-requires
-marked-word-requires c = search rules
-
-pub store-requires : goal.store-requires
-store-requires c = search rules
-
-pub shape_of-ram : goal.shape_of-ram
-shape_of-ram c = search rules
 
 pub returns-then-word-raw : goal.returns-then-word-raw
 returns-then-word-raw c =

@@ -1,4 +1,5 @@
 -- `descend`: the top's test, then the way down; a scheme's format is modest.
+use Rattle.std.specs.Prelude.{Err}
 use mathlib.Core.Path.{◌≡◌, subst⁻¹, ap, ◌∙◌}
 use Prim.Native.Nat.{ℕ}
 use borrow.Author.Tests.{not-true, not-false}
@@ -6,7 +7,6 @@ use Rattle.scheme.specs.Scheme.{Modest, format_of, widths_of}
 use Rattle.scheme.specs.declared.Format.{Format}
 use Rattle.scheme.proofs.Levels.{modest}
 use Rattle.walker.specs.Descent.{ended, seek, top_ok, descent_of}
-use Rattle.walker.specs.declared.End.TheVariants.{Stop}
 use Rattle.walker.specs.declared.Reason.TheVariants.{WrongTop}
 use Rattle.walker.proofs.Cases.{said, wrong_top, right_top}
 use borrow.Author.Rules.{rules}
@@ -16,23 +16,11 @@ use Rattle.walker.proofs.descend.Goals as goal
 top_said : (c : After-top_ok) → c.top_ok.result ≡ top_ok (format_of c.args.scheme) c.args.vaddr
 top_said c = c.top_ok.ensures ∙ ap (λ (f : Format). top_ok f c.args.vaddr) c.format-f.ensures
 
-pub format-f-requires : goal.format-f-requires
-format-f-requires c = search rules
-
-pub top_ok-requires : goal.top_ok-requires
-top_ok-requires c = search rules
-
-pub shift_below-requires : goal.shift_below-requires
-shift_below-requires c = search rules
-
 pub returns-then-not-top_ok : goal.returns-then-not-top_ok
 unfolding descent_of
 returns-then-not-top_ok c =
-    ap (λ (n : ℕ). ended (Stop WrongTop) n 0) c.shift_below.ensures
+    ap (λ (n : ℕ). ended (Err WrongTop) n 0) c.shift_below.ensures
     ∙ wrong_top _ _ _ _ _ _ (said (top_said (goal.at.returns-then-not-top_ok c).After-top_ok) (not-true _ c.if-not-top_ok.true-raw))
-
-pub total_bits-requires : goal.total_bits-requires
-total_bits-requires c = search rules
 
 pub go_down-requires : goal.go_down-requires
 go_down-requires c =

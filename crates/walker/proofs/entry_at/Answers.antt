@@ -5,7 +5,6 @@ use native.Mathlib.Omega.{arith}
 use native.Mathlib.Nat.{mul-le-mul}
 use lib.Pow.{pow_mono}
 use Rattle.walker.specs.Descent.{frame, place, entry_at}
-use borrow.Author.Rules.{rules}
 use Rattle.walker.proofs.entry_at.Goals.{After-struct_known-1}
 use Rattle.walker.proofs.entry_at.Goals as goal
 
@@ -18,29 +17,11 @@ index c =
 frame_low : (c : After-struct_known-1) → c.frame_of-start.result < 2 ^ 56
 frame_low c = omega (arith, c.frame_of-start.ensures.1, pow_mono c.requires.0.narrow)
 
-pub frame_of-start-requires : goal.frame_of-start-requires
-frame_of-start-requires c = search rules
-
-pub overflow_shr-vaddr : goal.overflow_shr-vaddr
-overflow_shr-vaddr c = search rules
-
-pub low_bits-index-requires : goal.low_bits-index-requires
-low_bits-index-requires c = search rules
-
-pub overflow_cast-size : goal.overflow_cast-size
-overflow_cast-size c = search rules
-
 pub overflow_mul-end : goal.overflow_mul-end
 overflow_mul-end c = omega (arith, index c)
 
 pub overflow_add-end : goal.overflow_add-end
 overflow_add-end c = omega (arith, index c, frame_low c)
-
-pub overflow_cast-f : goal.overflow_cast-f
-overflow_cast-f c = search rules
-
-pub low_bits-requires : goal.low_bits-requires
-low_bits-requires c = search rules
 
 pub returns : goal.returns
 unfolding entry_at place

@@ -3,14 +3,7 @@ use native.Mathlib.Omega.{arith}
 use mathlib.Core.Path.{◌∙◌}
 use Rattle.bits.proofs.Masks.{cut}
 use Rattle.walker.specs.Descent.{frame}
-use borrow.Author.Rules.{rules}
 use Rattle.walker.proofs.frame_of.Goals as goal
-
-pub overflow_cast-f : goal.overflow_cast-f
-overflow_cast-f c = search rules
-
-pub low_bits-requires : goal.low_bits-requires
-low_bits-requires c = search rules
 
 pub returns : goal.returns
 unfolding frame

@@ -12,7 +12,7 @@ use Rattle.walker.specs.Descent.{seek, follow, entry_at, met_at}
 use Rattle.walker.specs.declared.Met.{Met}
 use Rattle.walker.specs.declared.Descent.{Descent}
 use Rattle.walker.proofs.Down.{seek_cons, seek_none}
-use Rattle.walker.proofs.go_down.Goals.{In-loop-level, Start}
+use Rattle.walker.proofs.go_down.Goals.{In-loop-level, Start, in-Bad, in-Leaf}
 use Rattle.walker.proofs.go_down.Goals as goal
 
 -- what validity gives, and that the array holds every used width
@@ -29,13 +29,13 @@ abbrev below : (c : In-loop-level) → List ℕ
 below c = drop (c.loop-level.level + 1) (widths_of c.args.scheme)
 
 head : (c : In-loop-level) → drop c.loop-level.level (widths_of c.args.scheme) ≡ (width c) ∷ (below c)
-head c = rest_cons c.args.scheme.level_bits c.args.scheme.levels (long (goal.at.overflow_cast-i c).Start) c.loop-level.level c.loop-level-test.true
+head c = rest_cons c.args.scheme.level_bits c.args.scheme.levels (long (goal.at.bounds-scheme-level c).Start) c.loop-level.level c.loop-level-test.true
 
 ok : (c : In-loop-level) → ok_widths ((width c) ∷ (below c)) ≡ true
-ok c = ap ok_widths (sym (head c)) ∙ c.loop-level.invariant.3
+ok c = ap ok_widths (sym (head c)) ∙ c.loop-level.invariant.2
 
 shift_is : (c : In-loop-level) → c.loop-level.shift ≡ c.args.scheme.offset_bits + ((width c) + total (below c))
-shift_is c = c.loop-level.invariant.2 ∙ ap (λ (n : ℕ). c.args.scheme.offset_bits + n) (total_cons c.args.scheme.level_bits c.args.scheme.levels (long (goal.at.overflow_cast-i c).Start) c.loop-level.level c.loop-level-test.true)
+shift_is c = c.loop-level.invariant.1 ∙ ap (λ (n : ℕ). c.args.scheme.offset_bits + n) (total_cons c.args.scheme.level_bits c.args.scheme.levels (long (goal.at.bounds-scheme-level c).Start) c.loop-level.level c.loop-level-test.true)
 
 -- the walk down some widths, from a level and a table
 abbrev walk_from : (c : In-loop-level) → List ℕ → ℕ → ℕ → Descent
@@ -53,23 +53,17 @@ turn : (c : In-loop-level) (at : ℕ) (m : Met) → at ≡ entry_at c.args.f c.a
     → m ≡ met_at c.args.f c.args.ram.now (c.loop-level.shift - width c) at
     → walk_from c (widths_of c.args.scheme) 0 c.args.root ≡ ends c m
 turn c at m e g =
-    sym c.loop-level.invariant.4
+    sym c.loop-level.invariant.3
     ∙ ap (λ (ws : List ℕ). walk_from c ws c.loop-level.level c.loop-level.table) (head c)
     ∙ seek_cons _ _ _ _ (width c) (below c) _ _ _ _ _ (next_shift c) e g
 
 pub loop-level-init : goal.loop-level-init
 loop-level-init c =
     let v = known (goal.at.loop-level-init c).Start in
-    (search rules, omega (arith, c.requires.2, v.most), c.requires.2, v.ok, refl)
+    (omega (arith, c.requires.2, v.most), c.requires.2, v.ok, refl)
 
-pub overflow_cast-i : goal.overflow_cast-i
-overflow_cast-i c = search rules
-
-pub bounds-scheme-i : goal.bounds-scheme-i
-bounds-scheme-i c = omega (arith, (known (goal.at.bounds-scheme-i c).Start).four)
-
-pub overflow_cast-width : goal.overflow_cast-width
-overflow_cast-width c = search rules
+pub bounds-scheme-level : goal.bounds-scheme-level
+bounds-scheme-level c = omega (arith, (known (goal.at.bounds-scheme-level c).Start).four)
 
 pub overflow_sub-shift : goal.overflow_sub-shift
 overflow_sub-shift c = omega (arith, shift_is (goal.at.overflow_sub-shift c).In-loop-level)
@@ -80,33 +74,19 @@ entry_at-requires c = (c.requires.1, omega arith, ok_high _ _ (ok (goal.at.entry
 pub met_at-met-requires : goal.met_at-met-requires
 met_at-met-requires c = (c.requires.1, omega (arith, shift_is (goal.at.met_at-met-requires c).In-loop-level, (known (goal.at.met_at-met-requires c).Start).offset_low))
 
-pub enum_known-met : goal.enum_known-met
-enum_known-met c = search rules
-
-pub returns-in-Bad : goal.returns-in-Bad
+pub returns-in-loop-level : goal.returns-in-loop-level
 unfolding follow
-returns-in-Bad c = sym (turn (goal.at.returns-in-Bad c).In-loop-level _ _ c.entry_at.ensures c.met_at-met.ensures ∙ ap (ends (goal.at.returns-in-Bad c).In-loop-level) c.in-Bad.is)
-
-pub enum_known-met-in-Leaf-1 : goal.enum_known-met-in-Leaf-1
-enum_known-met-in-Leaf-1 c = search rules
-
-pub returns-in-Leaf : goal.returns-in-Leaf
-unfolding follow
-returns-in-Leaf c = sym (turn (goal.at.returns-in-Leaf c).In-loop-level _ _ c.entry_at.ensures c.met_at-met.ensures ∙ ap (ends (goal.at.returns-in-Leaf c).In-loop-level) c.in-Leaf.is)
-
-pub enum_known-met-in-Table-1 : goal.enum_known-met-in-Table-1
-enum_known-met-in-Table-1 c = search rules
-
-pub overflow_add-level : goal.overflow_add-level
-overflow_add-level c = search rules
-
-pub loop-level-smaller : goal.loop-level-smaller
-loop-level-smaller c = search rules
+returns-in-loop-level c =
+    let l = (goal.at.returns-in-loop-level c).In-loop-level in
+    let e = turn l _ _ c.entry_at.ensures c.met_at-met.ensures in
+    elim c.match-met.branch [
+      | in-Bad w ↦ rw w.end-is (sym (e ∙ ap (ends l) w.in-Bad.is))
+      | in-Leaf w ↦ rw w.end-is (sym (e ∙ ap (ends l) w.in-Leaf.is))
+    ]
 
 pub loop-level-preserved : goal.loop-level-preserved
 unfolding follow
 loop-level-preserved c = (
-  search rules,
   omega (arith, shift_is (goal.at.loop-level-preserved c).In-loop-level),
   next_shift (goal.at.loop-level-preserved c).In-loop-level,
   ok_rest _ _ (ok (goal.at.loop-level-preserved c).In-loop-level),
@@ -120,8 +100,8 @@ pub returns : goal.returns
 returns c =
     let l = c.loop-level in
     let e : l.level ≡ c.args.scheme.levels = omega arith in
-    let k : c.args.scheme.offset_bits ≡ l.shift = omega (arith, l.invariant.2, total_end c.args.scheme.level_bits c.args.scheme.levels (long (goal.at.returns c).Start) l.level c.loop-level-test.false) in
-    sym (sym l.invariant.4
+    let k : c.args.scheme.offset_bits ≡ l.shift = omega (arith, l.invariant.1, total_end c.args.scheme.level_bits c.args.scheme.levels (long (goal.at.returns c).Start) l.level c.loop-level-test.false) in
+    sym (sym l.invariant.3
     ∙ ap (λ (ws : List ℕ). seek c.args.f c.args.ram.now c.args.vaddr c.args.scheme.offset_bits ws l.level l.table)
     (rest_end c.args.scheme.level_bits c.args.scheme.levels (long (goal.at.returns c).Start) l.level c.loop-level-test.false)
     ∙ seek_none _ _ _ _ _ _

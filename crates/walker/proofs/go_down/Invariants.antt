@@ -1,5 +1,5 @@
 -- `go_down`: after each level what is left to seek is what was asked for.
-use Prim.Native.Nat.{◌+◌, ◌-◌, ◌≤◌}
+use Prim.Native.Nat.{◌+◌, ◌≤◌}
 use mathlib.Core.Path.{◌≡◌}
 use mathlib.Core.Bool.{true}
 use lib.ListN.{drop}
@@ -9,11 +9,8 @@ use Rattle.walker.proofs.go_down.Given as goal
 
 abbrev pub invariant-loop-level : goal.invariant-loop-level
 invariant-loop-level l =
-    (l.level ≤ l.n) × (l.shift ≤ 39)
+    (l.shift ≤ 39)
     × (l.shift ≡ l.scheme.offset_bits + total (drop l.level (widths_of l.scheme)))
     × (ok_widths (drop l.level (widths_of l.scheme)) ≡ true)
     × (seek l.f l.ram l.vaddr l.scheme.offset_bits (drop l.level (widths_of l.scheme)) l.level l.table
     ≡ seek l.f l.ram l.vaddr l.scheme.offset_bits (widths_of l.scheme) 0 l.root)
-
-abbrev pub decreases-loop-level : goal.decreases-loop-level
-decreases-loop-level l = l.n - l.level

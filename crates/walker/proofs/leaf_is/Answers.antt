@@ -5,7 +5,6 @@ use mathlib.Core.Bool.{Bool, not}
 use lib.Dec.{eqb}
 use Rattle.pte.specs.Entry.{ppn_of}
 use Rattle.walker.proofs.Cases.{said, misaligned, leaf}
-use borrow.Author.Rules.{rules}
 use Rattle.walker.proofs.leaf_is.Goals.{After-is_aligned}
 use Rattle.walker.proofs.leaf_is.Goals as goal
 
@@ -15,12 +14,6 @@ aligned shift n = not (eqb (n % 2 ^ (shift - 12)) 0)
 -- what the answer says of the word
 align_said : (c : After-is_aligned) → not c.is_aligned.result ≡ aligned c.args.shift (ppn_of c.args.pte.raw)
 align_said c = ap not c.is_aligned.ensures ∙ ap (aligned c.args.shift) c.ppn.ensures
-
-pub ppn-requires : goal.ppn-requires
-ppn-requires c = search rules
-
-pub is_aligned-requires : goal.is_aligned-requires
-is_aligned-requires c = search rules
 
 pub returns-then-not-is_aligned : goal.returns-then-not-is_aligned
 returns-then-not-is_aligned c = misaligned _ _ _ (said (align_said (goal.at.returns-then-not-is_aligned c).After-is_aligned) c.if-not-is_aligned.true-raw)

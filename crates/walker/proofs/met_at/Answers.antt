@@ -3,30 +3,17 @@ use mathlib.Core.Path.{sym, ◌∙◌, ap}
 use Rattle.walker.specs.Descent.{entry_is}
 use Rattle.memory.proofs.Reading.{is_word, no_word}
 use Rattle.walker.proofs.Cases.{said, unreadable, is_entry}
-use borrow.Author.Rules.{rules}
 use Rattle.walker.proofs.met_at.Goals as goal
 
 pub load-requires : goal.load-requires
 load-requires c = c.requires.0.short
 
-pub enum_known-raw : goal.enum_known-raw
-enum_known-raw c = search rules
-
-pub enum_told-1 : goal.enum_told-1
-enum_told-1 c = search rules
-
 pub returns-in_default : goal.returns-in_default
 returns-in_default c = unreadable _ _ _ _ (no_word _ _ _ _ (said c.load.ensures c.in_default.is))
 
-pub new-requires : goal.new-requires
-new-requires c = search rules
-
-pub entry_is-requires : goal.entry_is-requires
-entry_is-requires c = search rules
-
 pub returns : goal.returns
 returns c =
-    let w = is_word _ _ _ _ (said c.load.ensures c.in-Is.is) in
+    let w = is_word _ _ _ _ (said c.load.ensures c.in-Some.is) in
     let s = c.args in
     c.entry_is.ensures
     ∙ ap (entry_is s.shift s.at) (c.new.ensures ∙ sym w.1)

@@ -1,10 +1,6 @@
 -- `top_ok`: the definition's two tests, of what the shift leaves.
 use Rattle.walker.specs.Descent.{top_ok}
-use borrow.Author.Rules.{rules}
 use Rattle.walker.proofs.top_ok.Goals as goal
-
-pub shr64-top-requires : goal.shr64-top-requires
-shr64-top-requires c = search rules
 
 pub returns : goal.returns
 unfolding top_ok

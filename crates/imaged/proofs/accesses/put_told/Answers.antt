@@ -1,23 +1,13 @@
--- `imaged::accesses::put_told` meets its contract: three numbers, one after another.
-use native.Mathlib.Omega.{arith}
-use Rattle.writer.proofs.Puts.{then, within}
+-- `imaged::accesses::put_told`: three numbers, one after another.
+use Rattle.std.specs.Int.{w32, w64}
+use Rattle.writer.proofs.Wrotes.{then}
+use Rattle.entry_image.proofs.Bytes.{number}
 use Rattle.imaged.specs.Accesses.{told_bytes}
-use borrow.Author.Rules.{rules}
 use Rattle.imaged.proofs.accesses.put_told.Goals as goal
-
-pub put_le-x-requires : goal.put_le-x-requires
-put_le-x-requires c = search rules
-
-pub put_le-y-requires : goal.put_le-y-requires
-put_le-y-requires c = search rules
-
-pub put_le-requires : goal.put_le-requires
-put_le-requires c = search rules
-
-pub shape_of-told : goal.shape_of-told
-shape_of-told c = search rules
 
 pub returns : goal.returns
 unfolding told_bytes
 returns c =
-    within (omega arith) (then c.put_le-x.ensures (then c.put_le-y.ensures c.put_le.ensures))
+    let a = c.args in
+    then (number w32 a.cause c.to_le_bytes.ensures c.bytes.ensures)
+    (then (number w64 a.place c.to_le_bytes-2.ensures c.bytes-2.ensures) (number w32 a.words c.to_le_bytes-3.ensures c.bytes-3.ensures))

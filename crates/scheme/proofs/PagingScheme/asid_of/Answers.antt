@@ -7,14 +7,7 @@ use Rattle.bits.specs.Bits.{field_of}
 use Rattle.scheme.specs.Satp.{asid_in}
 use Rattle.scheme.specs.declared.Format.{Format}
 use Rattle.scheme.proofs.Levels.{modest}
-use borrow.Author.Rules.{rules}
 use Rattle.scheme.proofs.PagingScheme.asid_of.Goals as goal
-
-pub format-f-requires : goal.format-f-requires
-format-f-requires c = search rules
-
-pub field-n-requires : goal.field-n-requires
-field-n-requires c = search rules
 
 pub overflow_cast-result : goal.overflow_cast-result
 overflow_cast-result c =

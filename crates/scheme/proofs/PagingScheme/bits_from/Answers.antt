@@ -1,52 +1,34 @@
--- `bits_from`: the sum so far and the widths that are left come to what is asked for, from the start to the end.
-use Prim.Native.Nat.{◌≤◌}
-use mathlib.Core.Path.{◌≡◌}
-use native.Mathlib.Omega.{arith}
-use borrow.Author.Rules.{rules}
-use mir.Syntax.{w8}
-use mir.Val.{Fits}
-use lib.ListN.{length, get_or}
-use Rattle.scheme.proofs.Widths.{total_cons, total_end}
-use Rattle.scheme.proofs.PagingScheme.bits_from.Goals.{After-used-n, After-w-1}
+-- `bits_from`: the chain yields the widths from the start on, and four bytes add up to less than a word.
+use Rattle.std.proofs.Common.{rules, arith, sym, ◌∙◌, ◌≡◌, ◌≤◌, drop, get_or, ℕ, Fits, w8}
+use Rattle.std.proofs.lemmas.Iterator.{YieldsList-from_slice, YieldsList-from_map}
+use Rattle.std.proofs.lemmas.Iterator.Adapters.{YieldsList-from_skip}
+use Rattle.std.proofs.lemmas.Iterator.Consumers.{sum_by_from_yields_List, fits_by_from_yields_list}
+use Rattle.scheme.specs.Scheme.{total, widths_of}
+use Rattle.scheme.proofs.Widths.{total_is, total_few}
+use Rattle.scheme.proofs.PagingScheme.bits_from.Goals.{After-widths, After-sum}
 use Rattle.scheme.proofs.PagingScheme.bits_from.Goals as goal
 
-pub used-n-requires : goal.used-n-requires
-used-n-requires c = search rules
+-- four bytes, at most
+few : (c : After-widths) → total (drop c.args.start (widths_of c.args.self)) ≤ 1020
+few c =
+    let byte = λ (i : ℕ). let b : Fits w8 (get_or c.args.self.level_bits i 0) = search rules in b.fits in
+    total_few _ _ _ (search rules) byte
 
-pub overflow_cast-sum : goal.overflow_cast-sum
-overflow_cast-sum c = search rules
+pub sum-requires-clause-fits : goal.sum-requires-clause-fits
+sum-requires-clause-fits c =
+    let ws = widths_of c.args.self in
+    fits_by_from_yields_list (λ w. w) (drop c.args.start (widths_of c.args.self)) c.map-widths.result _ (YieldsList-from_map _ (λ w. w) (YieldsList-from_skip c.args.start (YieldsList-from_slice (widths_of c.args.self) cc) cc) c.map-widths.ensures.closure (λ x r q k. search rules))
+    (omega (arith, few (goal.at.sum-requires-clause-fits c).After-widths, total_is (drop c.args.start ws)))
 
-pub loop-i-init : goal.loop-i-init
-loop-i-init c = (search rules, simp c.used-n.ensures.1)
+-- what the chain adds up to
+added : (c : After-sum) → c.sum.result ≡ total (drop c.args.start (widths_of c.args.self))
+added c =
+    let ws = drop c.args.start (widths_of c.args.self) in
+    sum_by_from_yields_List (λ w. w) ws c.map-widths.result _ c.sum.ensures.ran (YieldsList-from_map _ (λ w. w) (YieldsList-from_skip c.args.start (YieldsList-from_slice (widths_of c.args.self) cc) cc) c.map-widths.ensures.closure (λ x r q k. search rules))
+    ∙ sym (total_is ws)
 
-pub bounds-self-i : goal.bounds-self-i
-bounds-self-i c = search rules
-
-pub overflow_cast-sum-in-loop-i : goal.overflow_cast-sum-in-loop-i
-overflow_cast-sum-in-loop-i c = search rules
-
--- the array holds every used width, and a width is a byte
-long : (c : After-used-n) → c.used-n.result ≤ length c.args.self.level_bits
-long c = let e : length c.args.self.level_bits ≡ 4 = search rules in omega (arith, c.used-n.ensures.0)
-
-byte : (c : After-w-1) → Fits w8 (get_or c.args.self.level_bits c.loop-i.i 0)
-byte c = search rules
-
-pub overflow_add-sum : goal.overflow_add-sum
-overflow_add-sum c = omega (arith, byte c)
-
-pub overflow_add-i : goal.overflow_add-i
-overflow_add-i c = search rules
-
-pub loop-i-smaller : goal.loop-i-smaller
-loop-i-smaller c = search rules
-
-pub loop-i-preserved : goal.loop-i-preserved
-loop-i-preserved c =
-    let step = total_cons c.args.self.level_bits c.used-n.result (long (goal.at.loop-i-preserved c).After-used-n) in
-    (omega (arith, byte c), omega (arith, step c.loop-i.i c.loop-i-test.true))
+pub overflow_add-result : goal.overflow_add-result
+overflow_add-result c = omega (arith, added c, few (goal.at.overflow_add-result c).After-widths)
 
 pub returns : goal.returns
-returns c =
-    let end = total_end c.args.self.level_bits c.used-n.result (long (goal.at.returns c).After-used-n) in
-    omega (arith, end c.loop-i.i c.loop-i-test.false)
+returns c = omega (arith, added c, c.from.ensures)

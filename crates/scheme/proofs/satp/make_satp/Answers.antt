@@ -1,16 +1,17 @@
--- `make_satp`: the three fields share no bit, so `|` adds them (`Pack`).
-use Prim.Native.Nat.{ℕ, ◌*◌, ◌/◌, ◌%◌, ◌^◌}
-use mathlib.Core.Path.{ap, ◌∙◌}
-use native.Mathlib.Omega.{arith}
-use lib.Bits.{bit_or, and_mask}
+-- `make_satp`: Sv32's format, whose words have 32 bits.
+use Rattle.std.proofs.Common.{◌≡◌, arith}
+use Rattle.scheme.specs.Scheme.{sv32, is_sv39, format_of}
 use Rattle.scheme.specs.Satp.{satp_in}
-use Rattle.scheme.proofs.Pack.{pack}
+use Rattle.scheme.proofs.satp.make_satp.Goals.{After-on_for}
 use Rattle.scheme.proofs.satp.make_satp.Goals as goal
 
-pub returns : goal.returns
+said : (c : After-on_for) → c.on_for.result ≡ satp_in sv32 c.args.root_pa c.args.asid
+unfolding is_sv39 format_of
+said c = rw (c.sv32.ensures, c.from.ensures) at c.on_for.ensures
+
+pub overflow_cast-result : goal.overflow_cast-result
 unfolding satp_in
-returns c =
-    let a = c.args in
-    ap (λ (n : ℕ). bit_or (bit_or (2 ^ 31) (n * 2 ^ 22 % 2 ^ 32)) (a.root_pa / 2 ^ 12)) (and_mask a.asid 9)
-    ∙ pack 9 22 (a.asid % 512) (a.root_pa / 2 ^ 12) (omega arith) (omega arith)
-    ∙ omega arith
+overflow_cast-result c = rw (said c) record { fits = omega arith }
+
+pub returns : goal.returns
+returns c = said c

@@ -1,16 +1,7 @@
--- `make_satp39`: the three fields share no bit, so `|` adds them (`Pack`).
-use Prim.Native.Nat.{ℕ, ◌*◌, ◌/◌, ◌%◌, ◌^◌}
-use mathlib.Core.Path.{ap, ◌∙◌}
-use native.Mathlib.Omega.{arith}
-use lib.Bits.{bit_or, and_mask}
-use Rattle.scheme.specs.Satp.{satp_in}
-use Rattle.scheme.proofs.Pack.{pack}
+-- `make_satp39`: Sv39's format.
+use Rattle.scheme.specs.Scheme.{is_sv39, format_of}
 use Rattle.scheme.proofs.satp.make_satp39.Goals as goal
 
 pub returns : goal.returns
-unfolding satp_in
-returns c =
-    let a = c.args in
-    ap (λ (n : ℕ). bit_or (bit_or (2 ^ 63) (a.asid * 2 ^ 44 % 2 ^ 64)) n) (and_mask (a.root_pa / 2 ^ 12) 44)
-    ∙ pack 19 44 a.asid (a.root_pa / 2 ^ 12 % 2 ^ 44) (omega arith) (omega arith)
-    ∙ omega arith
+unfolding is_sv39 format_of
+returns c = rw c.sv39.ensures at c.on_for.ensures
