@@ -2,7 +2,7 @@
 // entry, and what a walk is remembered as.
 #![tactic(auto)]
 
-ghost use Rattle.std.specs.Prelude.{◌≡◌, ◌<◌, ◌≤◌};
+ghost use Rattle.std.specs.Prelude.{◌≡◌, ◌<◌};
 ghost use Rattle.state.specs.State.{with_tlb};
 ghost use Rattle.access.specs.Translate.{passes_with, tallied, decides, ok_at, fault_of, found_served, made_with};
 
@@ -95,12 +95,12 @@ pub fn ok_at(words: u32, paddr: u64, stall: u8) -> Answer
 pub fn fault(words: u32, q: Access) -> Answer
     ensures { result ≡ fault_of words q }
 {
-    let kind = q.kind;
-    let cause = kind.page_fault_cause();
-    let vaddr = q.vaddr;
     Answer {
         words,
-        outcome: Err(Denied::Fault(PageFault { cause, vaddr })),
+        outcome: Err(Denied::Fault(PageFault {
+            cause: q.kind.page_fault_cause(),
+            vaddr: q.vaddr,
+        })),
     }
 }
 
@@ -109,11 +109,8 @@ pub fn fault(words: u32, q: Access) -> Answer
 pub fn serve_found(m: Mmu, e: TlbEntry, q: Access) -> Served
     ensures { result ≡ found_served m e q }
 {
-    let kind = q.kind;
-    let mode = q.mode;
-    let p = e.perms;
-    if walk::permits(p, kind) & walk::open_to(p, mode) {
-        let page_bits = m.scheme.offset_bits as u32 + e.mask_bits as u32;
+    if walk::permits(e.perms, q.kind) && walk::open_to(e.perms, q.mode) {
+        let page_bits = u32::from(m.scheme.offset_bits) + u32::from(e.mask_bits);
         let paddr = walk::build_paddr(m.scheme.format(), e.ppn, page_bits, q.vaddr);
         return Served {
             said: ok_at(0, paddr, m.tlb.config.hit_latency),

@@ -17,7 +17,7 @@ fn put_ok(out: &mut Out<'_>, va: u64, pa: u64, stall: u8)
     out.hex(va);
     out.bytes(b" ok ");
     out.hex(pa);
-    out.told(b" ", stall as u64);
+    out.told(b" ", u64::from(stall));
     out.bytes(b"\n");
 }
 
@@ -27,7 +27,7 @@ fn put_fault(out: &mut Out<'_>, va: u64, cause: u32)
     ensures { Wrote 25 out.old out.new (fault_line va cause) }
 {
     out.hex(va);
-    out.told(b" fault ", cause as u64);
+    out.told(b" fault ", u64::from(cause));
     out.bytes(b"\n");
 }
 

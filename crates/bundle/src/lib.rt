@@ -6,7 +6,7 @@ ghost use Rattle.layout.specs.Layout.{good_of};
 ghost use Rattle.bundle.specs.Parts.{scheme_at, config_at, settings_at, body_at, map_part_at, event_at, parts_of, read_of};
 
 use entry::{ReplacementPolicy, TlbConfig};
-use layout::{is_good, len_at, u16_at, u32_at};
+use layout::{bytes_at, is_good, len_at, u16_at, u32_at};
 use plan::{MapRule, PageMapSpec, Window};
 use pte::Pte;
 use scheme::{AccessType, PagingScheme, PrivMode, Refusal};
@@ -41,13 +41,10 @@ pub fn scheme_at(file: &[u8], at: usize) -> PagingScheme
     requires { at + 6 ≤ length file.now }
     ensures { result ≡ scheme_at file.now at }
 {
-    let offset_bits = file[at];
-    let levels = file[at + 1];
-    let level_bits = [file[at + 2], file[at + 3], file[at + 4], file[at + 5]];
     PagingScheme {
-        offset_bits,
-        level_bits,
-        levels,
+        offset_bits: file[at],
+        level_bits: bytes_at(file, at + 2),
+        levels: file[at + 1],
     }
 }
 
@@ -55,9 +52,8 @@ pub fn config_at(file: &[u8], at: usize) -> TlbConfig
     requires { at + 6 ≤ length file.now }
     ensures { result ≡ config_at file.now at }
 {
-    let entry_count = u16_at(file, at);
     TlbConfig {
-        entry_count,
+        entry_count: u16_at(file, at),
         associativity: file[at + 2],
         replacement: ReplacementPolicy::from(Code(file[at + 3])),
         hit_latency: file[at + 4],
@@ -71,7 +67,7 @@ fn settings_at(file: &[u8], at: usize) -> Settings
 {
     let scheme = scheme_at(file, at);
     let switches = file[at + 12];
-    let satp = u32_at(file, at + 16) as u64;
+    let satp = u64::from(u32_at(file, at + 16));
     Settings {
         scheme,
         enabled: switches & 0x1 != 0,
@@ -87,7 +83,7 @@ fn spec_at(file: &[u8], at: usize) -> PageMapSpec
 {
     let rule = MapRule::from(Code(file[at]));
     let kind = codes::kind_from(file[at + 1], u32_at(file, at + 4));
-    let flags = Pte::new(file[at + 2] as u64);
+    let flags = Pte::new(u64::from(file[at + 2]));
     let perms = flags.perms();
     let global = flags.global();
     PageMapSpec {
@@ -102,9 +98,10 @@ fn window_at(file: &[u8], at: usize) -> Window
     requires { at + 20 ≤ length file.now }
     ensures { result ≡ (body_at file.now at).window }
 {
-    let start = u32_at(file, at + 12);
-    let end = u32_at(file, at + 16);
-    Window { start, end }
+    Window {
+        start: u32_at(file, at + 12),
+        end: u32_at(file, at + 16),
+    }
 }
 
 pub fn body_at(file: &[u8], at: usize) -> MapBody
@@ -169,7 +166,7 @@ pub fn event_at(file: &[u8], at: usize) -> Event
     requires { at + 8 ≤ length file.now }
     ensures { result ≡ event_at file.now at }
 {
-    let vaddr = u32_at(file, at) as u64;
+    let vaddr = u64::from(u32_at(file, at));
     let kind = AccessType::from(Code(file[at + 4]));
     let mode = PrivMode::from(Code(file[at + 5]));
     match file[at + 6] {

@@ -38,6 +38,7 @@ fn install(map: Option<MapBody>, s: PagingScheme, ram: &mut [u8]) -> Result<(), 
 }
 
 // The map, and the records unless it is refused. `ram` is the bundle's RAM and no more.
+// Two private steps and one public one pass the same parts on; a type for them would be made at each call.
 fn run_mapped(file: &[u8], p: Parts, m: Mmu, ram: &mut [u8], out: &mut Out<'_>) -> Mmu
     requires { Within file.now p × HasRoom (25 * p.count + 113) out.old }
     ensures { (result ≡ map_mmu p.settings.scheme p.map (events_from file.now p.first p.count) m ram.old)

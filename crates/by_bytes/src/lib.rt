@@ -7,7 +7,7 @@ ghost use Rattle.writer.specs.Wrote.{HasRoom, Wrote};
 ghost use Rattle.imaged.specs.Imaged.{said_number};
 ghost use Rattle.by_bytes.specs.Numbers.{map_given, installed_said, installed_ram, walk_given, walk_told, reply_number, reply_told, walk_number, told_after, ram_after, root_number};
 
-use scheme::PagingScheme;
+use scheme::{PagingScheme, Refusal};
 use walk::{Access, WalkAnswer};
 use writer::Out;
 
@@ -25,7 +25,7 @@ pub fn install(scheme: &[u8], map: &[u8], ram: &mut [u8]) -> u32
         × (ram.new ≡ installed_ram scheme.now map.now ram.old) }
 {
     if !map_given(scheme, map) {
-        return 8;
+        return Refusal::BadLayout.number();
     }
     let s = bundle::scheme_at(scheme, 0);
     let b = bundle::body_at(map, 0);
@@ -85,7 +85,7 @@ pub fn walk(
         return 255;
     }
     if !walk_given(scheme, kind, mode) {
-        return 8;
+        return Refusal::BadLayout.number();
     }
     let s = bundle::scheme_at(scheme, 0);
     walk_one(s, root, imaged::access_by(vaddr, kind, mode), ram, told)
@@ -97,7 +97,7 @@ pub fn root_pa(scheme: &[u8], ram_size: u64) -> u64
     ensures { result ≡ root_number scheme.now ram_size }
 {
     if scheme.len() != 6 {
-        return 8;
+        return u64::from(Refusal::BadLayout.number());
     }
     let s = bundle::scheme_at(scheme, 0);
     match s.root_pa(ram_size) {

@@ -110,22 +110,22 @@ leaf_at w a = record { raw = w; at = a; shift = 22; level = 0 }
 
 module _ (start : List ℕ) (bytes : Bytes start) (t : Two start 0x1F 0x0010_001F) (readable-first : readable 32 4 start 4096 ≡ true)
     (readable-second : readable 32 4 start 4100 ≡ true) where
-  met_first : met_at sv32 start 22 4096 ≡ Leaf 0x1F 4096
+  met_first : met_at sv32 start 22 4096 ≡ Ok (Leaf (record { raw = 0x1F; at = 4096 }))
   unfolding met_at bad_if entry_is leaf_is bit
   met_first = rw (readable-first, t.first)
 
-  met_second : met_at sv32 start 22 4100 ≡ Leaf 0x0010_001F 4100
+  met_second : met_at sv32 start 22 4100 ≡ Ok (Leaf (record { raw = 0x0010_001F; at = 4100 }))
   unfolding met_at bad_if entry_is leaf_is bit
   met_second = rw (readable-second, t.second)
 
   -- an access whose entry is a leaf of the top table
-  walk_is : (q : Access) (w a : ℕ) → top_ok sv32 q.vaddr ≡ true → entry_at sv32 q.vaddr 1 22 10 ≡ a → met_at sv32 start 22 a ≡ Leaf w a
+  walk_is : (q : Access) (w a : ℕ) → top_ok sv32 q.vaddr ≡ true → entry_at sv32 q.vaddr 1 22 10 ≡ a → met_at sv32 start 22 a ≡ Ok (Leaf (record { raw = w; at = a }))
       → plain_walk settings_t start q ≡ leaf_judged q (leaf_at w a)
   unfolding descent_of descent_in format_of is_sv39 root_in seek follow judge_of total
   walk_is q w a top e met = rw (top, e, met)
 
   -- and what its marks make of the two words
-  earns : (q : Access) (w a : ℕ) → top_ok sv32 q.vaddr ≡ true → entry_at sv32 q.vaddr 1 22 10 ≡ a → met_at sv32 start 22 a ≡ Leaf w a → passes settings_t q ≡ false
+  earns : (q : Access) (w a : ℕ) → top_ok sv32 q.vaddr ≡ true → entry_at sv32 q.vaddr 1 22 10 ≡ a → met_at sv32 start 22 a ≡ Ok (Leaf (record { raw = w; at = a })) → passes settings_t q ≡ false
       → (ram : List ℕ) {x y : ℕ} → Two (verdict_marks sv32 q (leaf_judged q (leaf_at w a)) ram) x y → Two (earned settings_t start q ram) x y
   unfolding earned format_of is_sv39
   earns q w a top e met p ram two = rw (p, walk_is q w a top e met) two

@@ -2,7 +2,7 @@
 #![tactic(auto)]
 
 ghost use Rattle.std.specs.Prelude.{◌≡◌, false, true, ◌/◌, ◌%◌, ◌^◌, ◌<◌, max};
-ghost use Rattle.entry.specs.Entry.{blank, marked, matches_of, touched_of, is_clock, fresh_of, better_of};
+ghost use Rattle.entry.specs.Entry.{blank, matches_of, touched_of, is_clock, fresh_of, better_of};
 ghost use Rattle.entry.specs.Geometry.{default_config, pow_up, ways_for, entries_for, sets_for};
 
 // Six ways to pick the slot that an install gives up.
@@ -115,7 +115,7 @@ pub fn fresh(e: TlbEntry, policy: ReplacementPolicy, age: u32) -> TlbEntry
     TlbEntry {
         valid: true,
         age,
-        ref_bit: is_clock(policy) | e.ref_bit,
+        ref_bit: is_clock(policy) || e.ref_bit,
         ..e
     }
 }

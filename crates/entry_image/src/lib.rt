@@ -58,9 +58,8 @@ fn entry_in(s: &[u8], at: usize) -> TlbEntry
     let age = u32_at(s, at + 16);
     let asid = u16_at(s, at + 20);
     let mask_bits = s[at + 22];
-    let byte = s[at + 23] as u64;
     let referenced = s[at + 24];
-    let flags = Pte::new(byte);
+    let flags = Pte::new(u64::from(s[at + 23]));
     let perms = flags.perms();
     TlbEntry {
         vpn,

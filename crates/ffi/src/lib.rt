@@ -1,5 +1,5 @@
 // The calls of a host in C or Rust: numbers and byte slices alone. `ffi_c` exports each under its name here, which begins with the project's, since
-// a name is the whole program's.
+// a name is the whole program's. Most only hand on to a published function, for that name.
 #![tactic(auto)]
 
 ghost use Rattle.std.specs.Prelude.{◌≡◌, cond, length};

@@ -49,12 +49,3 @@ pub fn run_by<S: Server>(records: &[u8], count: usize, m: Mmu, ram: &mut [u8]) -
     }
     n
 }
-
-// The same, with each access by value.
-pub fn run_events(records: &[u8], count: usize, m: Mmu, ram: &mut [u8]) -> Mmu
-    requires { 8 * count ≤ length records.now }
-    ensures { (result ≡ end_mmu (events_from records.now 0 count) m ram.old)
-        × (ram.new ≡ end_ram (events_from records.now 0 count) m ram.old) }
-{
-    run_by::<ByValue>(records, count, m, ram)
-}

@@ -63,19 +63,18 @@ fn put_head(out: &mut Out<'_>, m: Mmu)
     requires { HasRoom 84 out.old }
     ensures { Wrote 84 out.old out.new (head_image m) }
 {
-    let t = m.tlb;
-    let stats = t.stats;
+    let stats = m.tlb.stats;
     let on = switches(m.enabled, m.force_translate, m.tlb_enabled);
-    out.bytes(&t.config.entry_count.to_le_bytes());
-    out.bytes(&front(t.config, on, m.scheme, t.offset_bits));
+    out.bytes(&m.tlb.config.entry_count.to_le_bytes());
+    out.bytes(&front(m.tlb.config, on, m.scheme, m.tlb.offset_bits));
     out.bytes(&m.satp.raw.to_le_bytes());
-    out.bytes(&t.age_counter.to_le_bytes());
+    out.bytes(&m.tlb.age_counter.to_le_bytes());
     put_words(
         out,
         &[
-            t.count as u64,
-            t.sets as u64,
-            t.mask_count as u64,
+            m.tlb.count as u64,
+            m.tlb.sets as u64,
+            m.tlb.mask_count as u64,
             stats.hits,
             stats.misses,
             stats.evictions,
@@ -92,11 +91,10 @@ pub fn put_state(m: Mmu, out: &mut [u8]) -> bool
     if out.len() < 3416 {
         return false;
     }
-    let t = m.tlb;
     let mut image = Out::new(out);
     put_head(&mut image, m);
-    image.bytes(&t.superpage_masks);
-    image.bytes(&t.clock_hands);
-    put_entries(&mut image, t.entries);
+    image.bytes(&m.tlb.superpage_masks);
+    image.bytes(&m.tlb.clock_hands);
+    put_entries(&mut image, m.tlb.entries);
     true
 }

@@ -9,7 +9,7 @@ ghost use Rattle.imaged.specs.Accesses.{translated_number, translated_image, tra
 
 use access::Denied;
 use bundle::Code;
-use scheme::{AccessType, PrivMode};
+use scheme::{AccessType, PrivMode, Refusal};
 use state::Mmu;
 use walk::Access;
 use writer::Out;
@@ -90,10 +90,11 @@ pub fn translate(
         return 255;
     }
     if !access_given(kind, mode) {
-        return 8;
+        return Refusal::BadLayout.number();
     }
     match image_read::state_in(image) {
         Ok(m) => serve_on(m, access_by(vaddr, kind, mode), image, ram, told),
+        // Kept 8: with `why.number()` the goal `returns-in-Err` did not close.
         Err(_) => 8,
     }
 }

@@ -45,7 +45,7 @@ fn call_on<F: FnOnce(Mmu) -> Kept>(image: &mut [u8], call: F) -> u32
 {
     match image_read::state_in(image) {
         Ok(m) => keep(call(m), image),
-        Err(_) => 8,
+        Err(why) => why.number(),
     }
 }
 
@@ -56,7 +56,7 @@ pub fn set_scheme(image: &mut [u8], scheme: &[u8]) -> u32
         × (image.new ≡ kept_in (schemed_of image.old scheme.now) image.old) }
 {
     if scheme.len() != 6 {
-        return 8;
+        return Refusal::BadLayout.number();
     }
     let s = bundle::scheme_at(scheme, 0);
     call_on(image, |m| mmu::set_scheme(m, s))
@@ -78,7 +78,7 @@ pub fn new(config: &[u8], image: &mut [u8]) -> u32
         return 255;
     }
     if !config_given(config) {
-        return 8;
+        return Refusal::BadLayout.number();
     }
     let c = bundle::config_at(config, 0);
     keep(mmu::new(c), image)
@@ -91,7 +91,7 @@ pub fn reconfigure(image: &mut [u8], config: &[u8]) -> u32
         × (image.new ≡ kept_in (configured_of image.old config.now) image.old) }
 {
     if !config_given(config) {
-        return 8;
+        return Refusal::BadLayout.number();
     }
     let c = bundle::config_at(config, 0);
     call_on(image, |m| mmu::reconfigure(m, c))

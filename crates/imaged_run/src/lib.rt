@@ -10,6 +10,7 @@ ghost use Rattle.image.specs.Image.{put_state};
 ghost use Rattle.imaged.specs.Imaged.{said_number};
 ghost use Rattle.imaged_run.specs.Records.{records_given, fit_said, opened_of, opened_said, events_of, records_text, records_ram, records_image, records_short, records_ran};
 
+use fold::{ByValue, Server};
 use run::TooShort;
 use scheme::Refusal;
 use state::Mmu;
@@ -20,11 +21,7 @@ fn records_given(records: &[u8]) -> bool
     ensures { result ≡ records_given records.now }
 {
     let len = records.len();
-    if 24000 < len {
-        return false;
-    }
-    let whole = len % 8 == 0;
-    whole & layout::records_ok(records, 0, len / 8)
+    len <= 24000 && len % 8 == 0 && layout::records_ok(records, 0, len / 8)
 }
 
 #[tactic(auto, unfolding(crate::specs::Records::fit_said))]
@@ -53,20 +50,29 @@ pub fn opened(image: &[u8], records: &[u8]) -> Result<Mmu, Refusal>
     Ok(m)
 }
 
-// A list of accesses and flushes on an image, for the state and the RAM alone.
-pub fn run_events(image: &mut [u8], records: &[u8], ram: &mut [u8]) -> u32
+// A list of accesses and flushes on an image, for the state and the RAM alone, with each access served by one that is told.
+pub fn run_events_by<S: Server>(image: &mut [u8], records: &[u8], ram: &mut [u8]) -> u32
     ensures { (result ≡ said_number (opened_said image.old records.now))
         × (image.new ≡ records_image image.old records.now ram.old)
         × (ram.new ≡ records_ram image.old records.now ram.old) }
 {
     match opened(image, records) {
         Ok(m) => {
-            let end = fold::run_events(records, records.len() / 8, m, ram);
+            let end = fold::run_by::<S>(records, records.len() / 8, m, ram);
             image::put_state(end, image);
             0
         }
         Err(why) => why.number(),
     }
+}
+
+// The same, with each access by value.
+pub fn run_events(image: &mut [u8], records: &[u8], ram: &mut [u8]) -> u32
+    ensures { (result ≡ said_number (opened_said image.old records.now))
+        × (image.new ≡ records_image image.old records.now ram.old)
+        × (ram.new ≡ records_ram image.old records.now ram.old) }
+{
+    run_events_by::<ByValue>(image, records, ram)
 }
 
 // A refusal's line at the start of a buffer that has room for it.

@@ -81,7 +81,7 @@ fn fill_entry(
 fn is_barred(p: PtePerms) -> bool
     ensures { result ≡ barred p }
 {
-    !(p.r | p.w | p.x) | (p.w & !p.r)
+    !(p.r || p.w || p.x) || p.w && !p.r
 }
 
 // The first refusal that holds, in document 01's order. `len` is the RAM's length.
@@ -103,7 +103,7 @@ fn first_refusal(
     }
     let root = root_pa as usize;
     let stop = root + plan::table_bytes(scheme, 0);
-    if (len < stop) | (0x1_0000_0000 < stop) {
+    if len < stop || 0x1_0000_0000 < stop {
         return Err(Refusal::TopTableOutside);
     }
     let perms = spec.perms;

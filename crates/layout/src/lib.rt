@@ -111,6 +111,7 @@ fn unused_ok(file: &[u8], at: usize, count: u8) -> bool
         && (3 < count || file[at + 3] == 0)
 }
 
+// A place in a file: the definitions are of the file and a place, and so are the clauses.
 #[tactic(auto, unfolding(crate::specs::Layout::settings_ok))]
 fn settings_ok(file: &[u8], at: usize) -> bool
     requires { at + 20 ≤ length file.now }

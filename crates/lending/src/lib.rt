@@ -42,6 +42,7 @@ pub fn run_session(
 ) -> Session
     ensures { (result ≡ session_of m q vaddr s config ram.old) × (ram.new ≡ translate_ram m q ram.old) }
 {
+    // Each answer has a local of its own: with the calls in the records' fields, `run_session_spec`, a walk by hand, did not close.
     let mut kept = m;
     let answer = host::translate(&mut kept, q, ram);
     let translated = Served {

@@ -1,4 +1,5 @@
 -- What a walk meets at the words of an installed map: its leaves are aligned leaves, and its pointers lead to the child tables.
+use Rattle.std.specs.Prelude.{Ok}
 use Prim.Native.Nat.{ℕ, ◌+◌, ◌-◌, ◌*◌, ◌/◌, ◌%◌, ◌^◌, ◌≤◌, ◌<◌}
 use native.Mathlib.Omega.{arith}
 use mathlib.Core.Path.{◌≡◌, refl, sym, ap, ◌∙◌}
@@ -35,7 +36,7 @@ unfolding barred
 lets p e = not_barred p.r p.w p.x e
 
 module _ (ram : List ℕ) (shift a w f : ℕ) (in_ram : readable 32 4 ram a ≡ true) (word : le_at 4 ram a ≡ w) (small : f < 2 ^ 22) where
-  pub meets_leaf : (p : PtePerms) (g : Bool) → w ≡ f * 1024 + flags_of p g → barred p ≡ false → f % 2 ^ (shift - 12) ≡ 0 → met_at sv32 ram shift a ≡ Leaf w a
+  pub meets_leaf : (p : PtePerms) (g : Bool) → w ≡ f * 1024 + flags_of p g → barred p ≡ false → f % 2 ^ (shift - 12) ≡ 0 → met_at sv32 ram shift a ≡ Ok (Leaf (record { raw = w; at = a }))
   meets_leaf p g is ok even =
       let valid = ap not (valid_is f w p g is) in
       let perms = perms_are f w p g is in
@@ -47,13 +48,13 @@ module _ (ram : List ℕ) (shift a w f : ℕ) (in_ram : readable 32 4 ram a ≡ 
   bare : PtePerms
   bare = record { r = false; w = false; x = false; u = false }
 
-  pub meets_table : w ≡ f * 1024 + 1 → met_at sv32 ram shift a ≡ Table f
+  pub meets_table : w ≡ f * 1024 + 1 → met_at sv32 ram shift a ≡ Ok (Table f)
   unfolding flags_of bare
   meets_table is =
       let valid = ap not (valid_is f w bare false is) in
       let perms = perms_are f w bare false is in
       sym (is_entry sv32 ram shift a in_ram)
-      ∙ rw word (sym (is_table shift a w valid (ap reserved perms) (high_is f w bare false is small) (ap is_leaf perms)) ∙ ap Table (ppn_is f w bare false is small))
+      ∙ rw word (sym (is_table shift a w valid (ap reserved perms) (high_is f w bare false is small) (ap is_leaf perms)) ∙ ap (λ (n : ℕ). Ok (Table n)) (ppn_is f w bare false is small))
 
 pub in_space : (ram : List ℕ) (a : ℕ) → readable 32 4 ram a ≡ true → a + 4 ≤ 2 ^ 32
 unfolding readable

@@ -133,7 +133,7 @@ module _ (p : Plan) (perms : PtePerms) (g : Bool) (flags : p.flags ≡ flags_of 
       record {
         at = pa + 4 * k;
         ends =
-            seek_cons sv32 ram va p.scheme.offset_bits w ws level (pa / 4096) (shift p ws) (pa + 4 * k) (Leaf (leaf_word p ws b) (pa + 4 * k)) refl place (sym met)
+            seek_cons sv32 ram va p.scheme.offset_bits w ws level (pa / 4096) (shift p ws) (pa + 4 * k) (Ok (Leaf (record { raw = leaf_word p ws b; at = pa + 4 * k }))) refl place (sym met)
             ∙ ap (ended (Ok (record { raw = leaf_word p ws b; at = pa + 4 * k })) (shift p ws)) (omega arith);
       }
 
@@ -158,7 +158,7 @@ module _ (p : Plan) (perms : PtePerms) (g : Bool) (flags : p.flags ≡ flags_of 
       record {
         at = on.at;
         ends =
-            seek_cons sv32 ram va p.scheme.offset_bits w ws level (pa / 4096) (shift p ws) (pa + 4 * k) (Table (c / 4096)) refl place (sym met)
+            seek_cons sv32 ram va p.scheme.offset_bits w ws level (pa / 4096) (shift p ws) (pa + 4 * k) (Ok (Table (c / 4096))) refl place (sym met)
             ∙ on.ends
             ∙ ap (ended (Ok (record { raw = leaf_word p (drop (suc n) ws) (base_from p.rule p.scheme.offset_bits ws b n va); at = on.at })) (shift p (drop (suc n) ws))) order;
       }

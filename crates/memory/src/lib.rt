@@ -23,7 +23,7 @@ pub fn load(ram: &[u8], a: u64, n: u8, bits: u8) -> Option<u64>
         return None;
     }
     let i = a as usize;
-    let word = &ram[i..i + n as usize];
+    let word = &ram[i..i + usize::from(n)];
     let v = word.iter().rev().fold(0, |v, b| v << 8 | u64::from(*b));
     Some(v)
 }
@@ -37,7 +37,7 @@ pub fn store(ram: &mut [u8], a: u64, n: u8, bits: u8, v: u64) -> bool
     }
     let i = a as usize;
     let mut rest = v;
-    for b in ram[i..i + n as usize].iter_mut() {
+    for b in ram[i..i + usize::from(n)].iter_mut() {
         *b = (rest % 256) as u8;
         rest /= 256;
     }

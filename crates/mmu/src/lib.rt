@@ -86,6 +86,7 @@ fn adopt(m: Mmu, s: PagingScheme, c: LeafMasks) -> Mmu
 }
 
 // Adopts a paging scheme; entries stay. Refusals 3, then 1.
+// Kept the test of a fit state in each of four calls: one function over a closure proved, but copied the 4 KB state more often, and was slower.
 #[tactic(auto, using(state::proofs::Fitness::masks_of, state::proofs::Fitness::no_masks), unfolding(crate::specs::Calls::set_scheme_of))]
 pub fn set_scheme(m: Mmu, s: PagingScheme) -> Kept
     ensures { result ≡ set_scheme_of m s }

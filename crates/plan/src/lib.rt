@@ -131,6 +131,7 @@ pub fn opens_child(p: Plan, level: u8, base: usize) -> bool
     let end = w.end as usize;
     let top = base + span_at(p, level);
     let more = level + 1 < s.levels;
+    // One test with no branch.
     more & ((start < end) & ((start < top) & (base < end)))
 }
 

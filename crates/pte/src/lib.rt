@@ -78,7 +78,7 @@ impl Pte {
         ensures { result ≡ leaf_of self.raw }
     {
         let p = self.perms();
-        p.r | p.w | p.x
+        p.r || p.w || p.x
     }
 
     pub fn with_a(self) -> Self

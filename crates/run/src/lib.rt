@@ -60,6 +60,7 @@ pub fn run_kept(file: &[u8], ram: &mut [u8], out: &mut [u8]) -> RunKept
         Ok(p) => {
             let start = bundle_run::set_up(p.config, p.settings);
             let need = room(start.said, p.count);
+            // Kept `|`: with `||` two ways join at the exit, and the goal `returns-then-out-need` did not close.
             if (out.len() < need) | (ram.len() < p.ram_len) {
                 return RunKept {
                     said: Err(TooShort),

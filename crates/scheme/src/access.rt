@@ -19,7 +19,7 @@ pub enum PrivMode {
 }
 
 impl AccessType {
-    // The cause of a page fault on this access.
+    // The cause of a page fault on this access. A match and no discriminants: the number is document 01's, and is stated by its definition.
     pub fn page_fault_cause(self) -> u32
         ensures { result ≡ cause_of self }
     {

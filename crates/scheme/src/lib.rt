@@ -2,7 +2,7 @@
 // small types that every crate above shares: refusals, satp, the kind of a map, accesses.
 #![tactic(auto)]
 
-ghost use Rattle.std.specs.Prelude.{◌≡◌, true, ◌+◌, ◌≤◌, drop, cond, Ok, Err};
+ghost use Rattle.std.specs.Prelude.{◌≡◌, true, ◌+◌, drop, cond, Ok, Err};
 ghost use Rattle.scheme.specs.declared.refusal.Refusal.TheVariants.{BadScheme};
 ghost use Rattle.scheme.specs.Scheme.{total, ok_widths, levels_of, widths_of, total_bits, valid_of, known_level, sv32_scheme};
 ghost use Rattle.scheme.specs.Scheme.{shift_of, shift_at, page_bytes_at, entries_at, root_pa, is_sv39, sv39_scheme, bought_of, format_of};
@@ -30,7 +30,7 @@ pub struct PagingScheme {
 // What may differ between the schemes' tables and registers: an entry's bytes; the bits that a physical address is kept to; the virtual
 // address's top, whose bits from `top` on are all clear, or are `ones`; and satp's fields, the PPN below the ASID, and the mode's number
 // that turns translation on.
-// `Modest` stays in the contracts that need it and is no invariant here: `walker::top_ok` answers for every format.
+// `Modest` stays in the contracts that need it and is no invariant here: the theorems of `walks` are of every format.
 #[derive(Clone, Copy)]
 pub struct Format {
     pub bytes: u8,
@@ -247,6 +247,7 @@ impl PagingScheme {
         let n = usize::from(self.levels);
         let mut masks = [0; 4];
         let mut below = 0;
+        // By index: the classes go up as the widths are read down, and a zip of both is no plainer.
         for i in 0..n {
             masks[i] = below;
             below += self.level_bits[n - 1 - i];

@@ -1,8 +1,7 @@
-// The numbers that stop a call.
+// Why a call is refused, and its number.
 ghost use Rattle.std.specs.Prelude.{◌≡◌};
 ghost use Rattle.scheme.specs.Refusals.{number_of};
 
-// Why a call is refused.
 #[derive(Clone, Copy)]
 pub enum Refusal {
     BadScheme,
@@ -17,6 +16,7 @@ pub enum Refusal {
 }
 
 impl Refusal {
+    // A match and no discriminants: the number is document 01's, and is stated by its definition.
     pub fn number(self) -> u32
         ensures { result ≡ number_of self }
     {

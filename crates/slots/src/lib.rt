@@ -26,6 +26,7 @@ pub fn first_slot<F: Fn(&TlbEntry) -> bool>(
     ensures within { IfSome result (λ i. i < end) }
     ensures first { (p : TlbEntry → Bool) → Tells F.Fn passes p → result ≡ first_in p es start end }
 {
+    // Kept a for loop: with `(start..end).find(..)` the goal `returns-clause-first` stayed open.
     for i in start..end {
         if passes(&es[i]) {
             return Some(i);
@@ -47,6 +48,7 @@ pub fn best_slot<F: Fn(u32, u32) -> bool>(
     ensures best { (newest : Bool) → Ranks F.Fn better newest → result ≡ best_in newest es start end }
 {
     let mut best = start;
+    // Kept a for loop: a fold over the same range carries the same place and compares the same two ages.
     for i in start + 1..end {
         if better(es[i].age, es[best].age) {
             best = i;

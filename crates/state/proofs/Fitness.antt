@@ -1,7 +1,7 @@
 -- Which states are fit: the tests of the code come to the definition, and a fit state has what the core needs.
 use Prim.Native.Nat.{◌≤◌}
 use native.Mathlib.Omega.{arith}
-use mathlib.Core.Path.{◌≡◌, refl, sym, ◌∙◌}
+use mathlib.Core.Path.{◌≡◌, refl, ◌∙◌}
 use mathlib.Core.Bool.{Bool, true, false, and-eq-true_iff}
 use lib.Dec.{eqb}
 use lib.ListN.{length, take}

@@ -21,12 +21,13 @@ pub struct Mmu {
 pub fn fits(m: Mmu) -> bool
     ensures { result ≡ fit_of m }
 {
-    let s = m.scheme;
-    let t = m.tlb;
-    let Ok(c) = s.leaf_masks() else {
+    let Ok(c) = m.scheme.leaf_masks() else {
         return false;
     };
-    let levels = usize::from(s.levels);
-    let same = t.superpage_masks[..levels] == c.masks[..levels];
-    tlb::fits(t) && t.offset_bits == s.offset_bits && t.mask_count == levels && same
+    let levels = usize::from(m.scheme.levels);
+    let same = m.tlb.superpage_masks[..levels] == c.masks[..levels];
+    tlb::fits(m.tlb)
+        && m.tlb.offset_bits == m.scheme.offset_bits
+        && m.tlb.mask_count == levels
+        && same
 }

@@ -34,7 +34,7 @@ fn step(e: Event, m: Mmu, ram: &mut [u8], out: &mut Out<'_>) -> Mmu
     }
 }
 
-// The `count` records from `first` on.
+// The `count` records from `first` on. Apart from `fold::run_by`: it puts lines, and promises them.
 fn run_records(
     file: &[u8],
     first: usize,

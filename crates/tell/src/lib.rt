@@ -7,7 +7,7 @@ use show::Hex;
 use std::io;
 use walk::{Access, Fault, PageFault, WalkAnswer, WalkResult};
 
-// A word of four bytes, or of a 64-bit board's eight.
+// A word of four bytes, or of a 64-bit board's eight. `wide` is one bit of a script's line, and one `if` at each use.
 pub fn put(ram: &mut [u8], at: u64, word: u64, wide: bool) {
     if wide {
         memory::store(ram, at, 8, 56, word);

@@ -14,7 +14,7 @@ pub fn put_refused(out: &mut Out<'_>, why: Refusal)
     ensures { Wrote 11 out.old out.new (refused_line why) }
 {
     let number = why.number();
-    out.told(b"refused ", number as u64);
+    out.told(b"refused ", u64::from(number));
     out.bytes(b"\n");
 }
 

@@ -27,14 +27,7 @@ pub fn muntesulca_events_lent(image: &mut [u8], records: &[u8], ram: &mut [u8]) 
         × (image.new ≡ records_image image.old records.now ram.old)
         × (ram.new ≡ records_ram image.old records.now ram.old) }
 {
-    match imaged_run::opened(image, records) {
-        Ok(m) => {
-            let end = fold::run_by::<Lent>(records, records.len() / 8, m, ram);
-            image::put_state(end, image);
-            0
-        }
-        Err(why) => why.number(),
-    }
+    imaged_run::run_events_by::<Lent>(image, records, ram)
 }
 
 // The same by value.

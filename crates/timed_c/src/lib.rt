@@ -1,5 +1,5 @@
 // What only the benchmark links: the functions of `timed` under their own names. Each states the clauses of the function that it calls, letter for
-// letter.
+// letter. A crate is a library or a static library, so both stand.
 #![tactic(auto)]
 
 ghost use Rattle.std.specs.Prelude.{◌≡◌};

@@ -6,7 +6,7 @@ use Rattle.entry.specs.Geometry.{ways_for, entries_for, sets_for}
 use Rattle.entry.specs.declared.TlbEntry.{TlbEntry}
 use Rattle.entry.specs.declared.TlbConfig.{TlbConfig}
 use Rattle.slots.specs.Slots.{entry_at, classes_fit}
-use Rattle.tlb.specs.Cache.{Cache, Shape, Seen, with_slots, install_in, probe_in, flush_in, flush_page_in}
+use Rattle.tlb.specs.Cache.{Cache, Shape, Seen, install_in, probe_in, flush_in, flush_page_in}
 use Rattle.tlb.specs.declared.Tlb.{Tlb}
 use Rattle.tlb.specs.declared.Probed.{Probed}
 
@@ -48,10 +48,6 @@ with_cache t c = record {
   superpage_masks = t.superpage_masks;
   mask_count = t.mask_count;
 }
-
--- a state with its slots given
-abbrev pub with_entries : Tlb → List TlbEntry → Tlb
-with_entries t es = with_cache t (with_slots (cache_of t) es t.age_counter)
 
 unfoldable pub tlb_install : Tlb → TlbEntry → Tlb
 tlb_install t e = with_cache t (install_in (shape_of t) e (cache_of t))

@@ -1,7 +1,7 @@
 // The TLB's state: how it starts, the scheme and the configuration it takes over, and whether it is fit.
 #![tactic(auto)]
 
-ghost use Rattle.std.specs.Prelude.{◌≡◌, cond, leb, ◌≤◌};
+ghost use Rattle.std.specs.Prelude.{◌≡◌, ◌≤◌};
 ghost use Rattle.entry.specs.Geometry.{entries_for};
 ghost use Rattle.tlb.specs.State.{tlb_new, tlb_set_scheme, tlb_reconfigure, tlb_fits};
 

@@ -27,6 +27,7 @@ fn touch(t: Tlb, i: usize) -> Probed
 // The first slot that answers, in the sets of the page classes in turn.
 fn find(t: &Tlb, vpn: u64, asid: u16) -> Option<usize>
     requires geo { Geo t.now }
+    // Two clauses and no invariant: a host may hand in any state.
     requires mask_count_bound { t.now.mask_count ≤ 4 }
     ensures within { IfSome result (λ i. i < 128) }
     ensures first { result ≡ find_from (shape_of t.now) (shape_of t.now).classes vpn asid t.now.entries }

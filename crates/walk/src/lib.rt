@@ -86,16 +86,14 @@ pub fn open_to(p: PtePerms, mode: PrivMode) -> bool
 fn judge_leaf(leaf: LeafAt, access: Access) -> Result<LeafAt, Fault>
     ensures { result ≡ leaf_judged access leaf }
 {
-    let kind = access.kind;
-    let mode = access.mode;
     let p = Pte::new(leaf.raw).perms();
-    if !permits(p, kind) {
+    if !permits(p, access.kind) {
         return Err(Fault {
             why: Reason::NoRight,
             level: leaf.level,
         });
     }
-    if !open_to(p, mode) {
+    if !open_to(p, access.mode) {
         return Err(Fault {
             why: Reason::Privilege,
             level: leaf.level,
@@ -126,8 +124,7 @@ fn marked(pte: Pte, kind: AccessType) -> Pte
     let a = pte.with_a();
     match kind {
         AccessType::Store => a.with_d(),
-        AccessType::Load => a,
-        AccessType::Fetch => a,
+        AccessType::Load | AccessType::Fetch => a,
     }
 }
 
@@ -172,10 +169,10 @@ fn words_to(f: Format, vaddr: u64, level: u8) -> u32
     ensures { result ≡ words_to f vaddr level }
 {
     if walker::top_ok(f, vaddr) {
-        let words = level as u32 + 1;
-        return words;
+        u32::from(level) + 1
+    } else {
+        0
     }
-    0
 }
 
 // Walks the tables from the frame `root`, and marks the leaf's word. For callers that know the scheme to be valid.
@@ -184,21 +181,22 @@ pub fn walk_valid(scheme: PagingScheme, root: u64, ram: &mut [u8], access: Acces
     ensures { (result ≡ answer_of (format_of scheme) access (walk_of scheme root ram.old access))
         × (ram.new ≡ marked_by (format_of scheme) access.kind ram.old (walk_of scheme root ram.old access)) }
 {
-    let kind = access.kind;
-    let vaddr = access.vaddr;
     let f = scheme.format();
-    let verdict = judge(walker::descend(ram, root, scheme, vaddr), access);
+    let verdict = judge(walker::descend(ram, root, scheme, access.vaddr), access);
     match verdict {
         Err(stop) => {
-            let cause = kind.page_fault_cause();
-            let words = words_to(f, vaddr, stop.level);
-            let answer = Err(PageFault { cause, vaddr });
+            let cause = access.kind.page_fault_cause();
+            let words = words_to(f, access.vaddr, stop.level);
+            let answer = Err(PageFault {
+                cause,
+                vaddr: access.vaddr,
+            });
             WalkAnswer { words, answer }
         }
         Ok(leaf) => {
-            mark(f, ram, leaf.at, leaf.raw, kind);
-            let answer = Ok(page(f, leaf, vaddr));
-            let words = leaf.level as u32 + 1;
+            mark(f, ram, leaf.at, leaf.raw, access.kind);
+            let answer = Ok(page(f, leaf, access.vaddr));
+            let words = u32::from(leaf.level) + 1;
             WalkAnswer { words, answer }
         }
     }

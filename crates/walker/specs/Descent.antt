@@ -11,32 +11,32 @@ use Rattle.scheme.specs.declared.PagingScheme.{PagingScheme}
 use Rattle.walker.specs.declared.Reason.{Reason}
 use Rattle.walker.specs.declared.Reason.TheVariants.{Unreadable, Invalid, WriteOnly, Misaligned, OutOfLevels, WrongTop, HighBits}
 use Rattle.walker.specs.declared.Met.{Met}
-use Rattle.walker.specs.declared.Met.TheVariants.{Bad, Table, Leaf}
+use Rattle.walker.specs.declared.Met.TheVariants.{Table, Leaf}
 use Rattle.walker.specs.declared.Descent.{Descent}
 
 abbrev pub ended : Result LeafWord Reason → ℕ → ℕ → Descent
 ended e shift level = record { end = e; shift = shift; level = level }
 
 -- where the descent ends, once it has met m at a level; `go` goes on from the next table's frame
-unfoldable pub follow : Met → ℕ → ℕ → (ℕ → Descent) → Descent
-follow (Bad why) shift level go = ended (Err why) shift level
-follow (Leaf w a) shift level go = ended (Ok (record { raw = w; at = a })) shift level
-follow (Table t) shift level go = go t
+unfoldable pub follow : Result Met Reason → ℕ → ℕ → (ℕ → Descent) → Descent
+follow (Err why) shift level go = ended (Err why) shift level
+follow (Ok (Leaf leaf)) shift level go = ended (Ok leaf) shift level
+follow (Ok (Table t)) shift level go = go t
 
 -- the stop `why` if a test says so, and else what comes next
-unfoldable pub bad_if : Bool → Reason → Met → Met
-bad_if true why next = Bad why
+unfoldable pub bad_if : Bool → Reason → Result Met Reason → Result Met Reason
+bad_if true why next = Err why
 bad_if false why next = next
 
 -- a leaf w at `shift` that stands at a
-unfoldable pub leaf_is : ℕ → ℕ → ℕ → Met
+unfoldable pub leaf_is : ℕ → ℕ → ℕ → Result Met Reason
 leaf_is shift a w =
     -- step 6: "PPN bits below (shift - 12) are zero", or the superpage is misaligned
     bad_if (not (eqb (ppn_of w % 2 ^ (shift - 12)) 0)) Misaligned
-    (Leaf w a)
+    (Ok (Leaf (record { raw = w; at = a })))
 
 -- what the entry w that stands at a is
-unfoldable pub entry_is : ℕ → ℕ → ℕ → Met
+unfoldable pub entry_is : ℕ → ℕ → ℕ → Result Met Reason
 entry_is shift a w =
     -- step 3: "V clear"
     bad_if (not (valid_bit w)) Invalid
@@ -45,7 +45,7 @@ entry_is shift a w =
     -- "Bits 63-54 set in an entry fault next after W without R"; "11, high bits set"
     (bad_if (high_bits w) HighBits
     -- step 4: "If R, W and X are all clear" the PPN is the next table; "Otherwise it is a leaf"
-    (cond (leaf_of w) (leaf_is shift a w) (Table (ppn_of w)))))
+    (cond (leaf_of w) (leaf_is shift a w) (Ok (Table (ppn_of w))))))
 
 module _ (f : Format) where
   -- a frame's address: the PPN "times 4096 and kept to 32 bits"; on Sv39 to 56, which cuts no PPN of 44: "Frames are not cut to 32 bits"
@@ -61,7 +61,7 @@ module _ (f : Format) where
   entry_at va t shift width = place t (field_of shift width va)
 
   -- what stands at a in RAM
-  unfoldable pub met_at : List ℕ → ℕ → ℕ → Met
+  unfoldable pub met_at : List ℕ → ℕ → ℕ → Result Met Reason
   met_at ram shift a =
       -- step 2: the word is "not readable"
       bad_if (not (readable f.space f.bytes ram a)) Unreadable

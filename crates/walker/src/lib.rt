@@ -44,19 +44,18 @@ impl fmt::Display for Reason {
     }
 }
 
-// What an entry is: no use, the next table's frame, or a leaf, its word and its address.
-#[derive(Clone, Copy)]
-pub enum Met {
-    Bad(Reason),
-    Table(u64),
-    Leaf(u64, u64),
-}
-
 // A leaf's word and its address.
 #[derive(Clone, Copy)]
 pub struct LeafWord {
     pub raw: u64,
     pub at: u64,
+}
+
+// What an entry of use is: the next table's frame, or a leaf.
+#[derive(Clone, Copy)]
+pub enum Met {
+    Table(u64),
+    Leaf(LeafWord),
 }
 
 // Where a descent ends: at an aligned leaf, or nowhere. With the shift and the level where that stands: all addresses alike from the shift
@@ -72,10 +71,11 @@ pub struct Descent {
 fn is_reserved(p: PtePerms) -> bool
     ensures { result ≡ reserved p }
 {
-    p.w & !p.r
+    p.w && !p.r
 }
 
-// Whether the frame is a multiple of the page: the PPN's bits below (shift - 12) are zero.
+// Whether the frame is a multiple of the page: the PPN's bits below (shift - 12) are zero. 12 ≤ shift: an offset has 12 bits at least; four
+// private functions pass it on.
 fn is_aligned(ppn: u64, shift: u32) -> bool
     requires { 12 ≤ shift }
     ensures { result ≡ eqb (ppn % 2 ^ (shift - 12)) 0 }
@@ -104,43 +104,43 @@ fn entry_at(f: Format, vaddr: u64, table: u64, shift: u32, width: u32) -> u64
 }
 
 // What the leaf at `at` is.
-fn leaf_is(pte: Pte, at: u64, shift: u32) -> Met
+fn leaf_is(pte: Pte, at: u64, shift: u32) -> Result<Met, Reason>
     requires { 12 ≤ shift }
     ensures { result ≡ leaf_is shift at pte.raw }
 {
     if !is_aligned(pte.ppn(), shift) {
-        return Met::Bad(Reason::Misaligned);
+        return Err(Reason::Misaligned);
     }
-    Met::Leaf(pte.raw, at)
+    Ok(Met::Leaf(LeafWord { raw: pte.raw, at }))
 }
 
 // What the entry at `at` is.
-fn entry_is(pte: Pte, at: u64, shift: u32) -> Met
+fn entry_is(pte: Pte, at: u64, shift: u32) -> Result<Met, Reason>
     requires { 12 ≤ shift }
     ensures { result ≡ entry_is shift at pte.raw }
 {
     if !pte.valid() {
-        return Met::Bad(Reason::Invalid);
+        return Err(Reason::Invalid);
     }
     if is_reserved(pte.perms()) {
-        return Met::Bad(Reason::WriteOnly);
+        return Err(Reason::WriteOnly);
     }
     if pte.high() {
-        return Met::Bad(Reason::HighBits);
+        return Err(Reason::HighBits);
     }
     if pte.is_leaf() {
         return leaf_is(pte, at, shift);
     }
-    Met::Table(pte.ppn())
+    Ok(Met::Table(pte.ppn()))
 }
 
 // What stands at `at`.
-fn met_at(f: Format, ram: &[u8], at: u64, shift: u32) -> Met
+fn met_at(f: Format, ram: &[u8], at: u64, shift: u32) -> Result<Met, Reason>
     requires { Modest f × (12 ≤ shift) }
     ensures { result ≡ met_at f ram.now shift at }
 {
     let Some(raw) = memory::load(ram, at, f.bytes, f.space) else {
-        return Met::Bad(Reason::Unreadable);
+        return Err(Reason::Unreadable);
     };
     entry_is(Pte::new(raw), at, shift)
 }
@@ -158,9 +158,9 @@ fn go_down(f: Format, ram: &[u8], root: u64, scheme: PagingScheme, bits: u32, va
         shift -= width;
         let met = met_at(f, ram, entry_at(f, vaddr, table, shift, width), shift);
         let end = match met {
-            Met::Bad(why) => Err(why),
-            Met::Leaf(raw, at) => Ok(LeafWord { raw, at }),
-            Met::Table(next) => {
+            Err(why) => Err(why),
+            Ok(Met::Leaf(leaf)) => Ok(leaf),
+            Ok(Met::Table(next)) => {
                 table = next;
                 continue;
             }
@@ -176,11 +176,12 @@ fn go_down(f: Format, ram: &[u8], root: u64, scheme: PagingScheme, bits: u32, va
 }
 
 // Whether the bits above the scheme's are all clear, or as Sv39 has them all set.
+#[tactic(auto, unfolding(crate::specs::Descent::top_ok))]
 pub fn top_ok(f: Format, vaddr: u64) -> bool
     ensures { result ≡ top_ok f vaddr }
 {
     let top = bits::shr64(vaddr, f.top);
-    (top == 0) | (top == f.ones)
+    top == 0 || top == f.ones
 }
 
 // The descent for `vaddr` from the table in the frame `root`. For callers that know the scheme to be valid.

@@ -1,5 +1,5 @@
 -- Addresses alike from the end's shift up go down the same way. For every format, every list of widths and every RAM.
-use Rattle.std.specs.Prelude.{Err}
+use Rattle.std.specs.Prelude.{Err, Ok, Result}
 use Prim.Native.Nat.{ℕ, ◌+◌, ◌-◌, ◌/◌, ◌%◌, ◌^◌, ◌≤◌, ◌<◌}
 use native.Mathlib.Nat.{le_refl, le_trans, lt_of_le_of_lt}
 use native.Mathlib.Omega.{arith}
@@ -15,8 +15,9 @@ use Rattle.scheme.proofs.Widths.{valid, top_shift}
 use Rattle.scheme.specs.declared.Format.{Format}
 use Rattle.walker.specs.Descent.{place, entry_at, met_at, follow, seek, ended, top_ok, descent_in, descent_of}
 use Rattle.walker.specs.declared.Reason.TheVariants.{WrongTop}
+use Rattle.walker.specs.declared.Reason.{Reason}
 use Rattle.walker.specs.declared.Met.{Met}
-use Rattle.walker.specs.declared.Met.TheVariants.{Bad, Table, Leaf}
+use Rattle.walker.specs.declared.Met.TheVariants.{Table, Leaf}
 use Rattle.walker.specs.declared.Descent.{Descent}
 
 -- addresses alike from bit j up are alike from bit k up
@@ -29,11 +30,11 @@ alike m n j k h e = more m ∙ ap (λ (x : ℕ). x / 2 ^ (k - j)) e ∙ sym (mor
 module _ (f : Format) (ram : List ℕ) (offset : ℕ) where
   -- ---- the end's shift lies within the widths
 
-  follow_shift : (m : Met) (s level : ℕ) (go : ℕ → Descent) → ((t : ℕ) → (go t).shift ≤ s) → (follow m s level go).shift ≤ s
+  follow_shift : (m : Result Met Reason) (s level : ℕ) (go : ℕ → Descent) → ((t : ℕ) → (go t).shift ≤ s) → (follow m s level go).shift ≤ s
   unfolding follow
-  follow_shift (Bad why) s level go h = le_refl _
-  follow_shift (Leaf w a) s level go h = le_refl _
-  follow_shift (Table t) s level go h = h t
+  follow_shift (Err why) s level go h = le_refl _
+  follow_shift (Ok (Leaf l)) s level go h = le_refl _
+  follow_shift (Ok (Table t)) s level go h = h t
 
   pub shift_high : (va : ℕ) (ws : List ℕ) (level t : ℕ) → (seek f ram va offset ws level t).shift ≤ offset + total ws
   unfolding seek total
@@ -45,11 +46,11 @@ module _ (f : Format) (ram : List ℕ) (offset : ℕ) where
   unfolding seek
   shift_below_lem va w ws level t = follow_shift _ (offset + total ws) level _ (shift_high va ws (level + 1))
 
-  follow_low : (m : Met) (s level : ℕ) (go : ℕ → Descent) → offset ≤ s → ((t : ℕ) → offset ≤ (go t).shift) → offset ≤ (follow m s level go).shift
+  follow_low : (m : Result Met Reason) (s level : ℕ) (go : ℕ → Descent) → offset ≤ s → ((t : ℕ) → offset ≤ (go t).shift) → offset ≤ (follow m s level go).shift
   unfolding follow
-  follow_low (Bad why) s level go k h = k
-  follow_low (Leaf w a) s level go k h = k
-  follow_low (Table t) s level go k h = h t
+  follow_low (Err why) s level go k h = k
+  follow_low (Ok (Leaf l)) s level go k h = k
+  follow_low (Ok (Table t)) s level go k h = h t
 
   pub shift_low : (va : ℕ) (ws : List ℕ) (level t : ℕ) → offset ≤ (seek f ram va offset ws level t).shift
   unfolding seek
@@ -79,13 +80,13 @@ module _ (f : Format) (ram : List ℕ) (offset : ℕ) where
         met : va' / 2 ^ s ≡ va / 2 ^ s → met_at f ram s (entry_at f va' t s w) ≡ met_at f ram s (entry_at f va t s w)
         met e = ap (met_at f ram s) (entry_same t s w e)
 
-        go : (m : Met) → met_at f ram s (entry_at f va t s w) ≡ m
+        go : (m : Result Met Reason) → met_at f ram s (entry_at f va t s w) ≡ m
             → va' / 2 ^ (follow (met_at f ram s (entry_at f va t s w)) s level (rest va)).shift ≡ va / 2 ^ (follow (met_at f ram s (entry_at f va t s w)) s level (rest va)).shift
             → ((next : ℕ) → va' / 2 ^ (rest va next).shift ≡ va / 2 ^ (rest va next).shift → rest va' next ≡ rest va next)
             → follow (met_at f ram s (entry_at f va' t s w)) s level (rest va') ≡ follow (met_at f ram s (entry_at f va t s w)) s level (rest va)
-        go (Bad why) e h ih = rw (met (rw e at h), e)
-        go (Leaf x a) e h ih = rw (met (rw e at h), e)
-        go (Table next) e h ih =
+        go (Err why) e h ih = rw (met (rw e at h), e)
+        go (Ok (Leaf l)) e h ih = rw (met (rw e at h), e)
+        go (Ok (Table next)) e h ih =
             let k : va' / 2 ^ (rest va next).shift ≡ va / 2 ^ (rest va next).shift = rw e at h in
             rw (met (alike va' va _ s (shift_high va ws (level + 1) next) k), e) (ih next k)
 

@@ -125,6 +125,6 @@ module _ (f : Format) (o : Sound f) (ram : List ℕ) (small : Bytes ram) (q : Ac
   walk_same offset ws root =
       marked_same _ _ (descent_in f ram q.vaddr offset ws root).end
       (whole f Marked ram q.vaddr offset ws root (of_page f Marked ram q.vaddr offset
-      (λ t s w x y e. (met_leaf f ram s _ x y e, subst (λ (n : ℕ). f.bytes ∣ n) (met_at_lem f ram s _ x y e) (entry_aligned f o q.vaddr t s w)))
+      (λ t s w l e. (met_leaf f ram s _ l e, subst (λ (n : ℕ). f.bytes ∣ n) (met_at_lem f ram s _ l e) (entry_aligned f o q.vaddr t s w)))
       ws 0 root))
       _ refl

@@ -1,6 +1,6 @@
 -- Marks change no walk: where two RAMs differ in A and D bits of aligned words alone, every walk ends alike in both.
 -- For every format whose entry size divides a page and the address space.
-use Rattle.std.specs.Prelude.{Err}
+use Rattle.std.specs.Prelude.{Err, Ok, Result}
 use Prim.Native.Nat.{ℕ, ◌+◌, ◌/◌, ◌%◌, ◌^◌, ◌<◌, ◌∣◌}
 use native.Mathlib.Nat.{dvd-add, dvd-mul_right, dvd-mul_left_of_dvd, dvd-mod_iff}
 use native.Mathlib.Omega.{arith}
@@ -19,14 +19,14 @@ use Rattle.walker.specs.Descent.{frame, place, entry_at, bad_if, leaf_is, entry_
 use Rattle.walker.specs.declared.Reason.{Reason}
 use Rattle.walker.specs.declared.Reason.TheVariants.{WrongTop}
 use Rattle.walker.specs.declared.Met.{Met}
-use Rattle.walker.specs.declared.Met.TheVariants.{Bad, Table, Leaf}
+use Rattle.walker.specs.declared.Met.TheVariants.{Table, Leaf}
 use Rattle.walker.specs.declared.Descent.{Descent}
 use Rattle.walks.specs.Plain.{plain, plain_end, plain_descent, Sound}
 
-unfoldable pub plain_met : Met → Met
-plain_met (Bad why) = Bad why
-plain_met (Table t) = Table t
-plain_met (Leaf w a) = Leaf (plain w) a
+unfoldable pub plain_met : Result Met Reason → Result Met Reason
+plain_met (Err why) = Err why
+plain_met (Ok (Table t)) = Ok (Table t)
+plain_met (Ok (Leaf l)) = Ok (Leaf (record { raw = plain l.raw; at = l.at }))
 
 -- ---- the checks look at no A and no D
 
@@ -65,12 +65,12 @@ module _ (w v : ℕ) (e : plain w ≡ plain v) where
 pub plain_plain : (w : ℕ) → plain (plain w) ≡ plain w
 plain_plain w = omega arith
 
-push : (b : Bool) (why : Reason) (m : Met) → plain_met (bad_if b why m) ≡ bad_if b why (plain_met m)
+push : (b : Bool) (why : Reason) (m : Result Met Reason) → plain_met (bad_if b why m) ≡ bad_if b why (plain_met m)
 unfolding plain_met bad_if
 push true why m = refl
 push false why m = refl
 
-push_cond : (b : Bool) (m n : Met) → plain_met (cond b m n) ≡ cond b (plain_met m) (plain_met n)
+push_cond : (b : Bool) (m n : Result Met Reason) → plain_met (cond b m n) ≡ cond b (plain_met m) (plain_met n)
 push_cond true m n = refl
 push_cond false m n = refl
 
@@ -96,17 +96,17 @@ entry_aligned f o va t s w =
     (dvd-mod_iff f.bytes o.in_space).1
     (dvd-add f.bytes ((dvd-mod_iff f.bytes o.in_space).1 (dvd-mul_left_of_dvd f.bytes o.in_page t)) (dvd-mul_right f.bytes _))
 
-push_follow : (m : Met) (s level : ℕ) (go : ℕ → Descent) → plain_descent (follow m s level go) ≡ follow (plain_met m) s level (λ (t : ℕ). plain_descent (go t))
+push_follow : (m : Result Met Reason) (s level : ℕ) (go : ℕ → Descent) → plain_descent (follow m s level go) ≡ follow (plain_met m) s level (λ (t : ℕ). plain_descent (go t))
 unfolding follow plain_met plain_descent plain_end
-push_follow (Bad why) s level go = refl
-push_follow (Table t) s level go = refl
-push_follow (Leaf w a) s level go = refl
+push_follow (Err why) s level go = refl
+push_follow (Ok (Table t)) s level go = refl
+push_follow (Ok (Leaf l)) s level go = refl
 
-follow_same : (m : Met) (s level : ℕ) (go go' : ℕ → Descent) → ((t : ℕ) → go t ≡ go' t) → follow m s level go ≡ follow m s level go'
+follow_same : (m : Result Met Reason) (s level : ℕ) (go go' : ℕ → Descent) → ((t : ℕ) → go t ≡ go' t) → follow m s level go ≡ follow m s level go'
 unfolding follow
-follow_same (Bad why) s level go go' h = refl
-follow_same (Table t) s level go go' h = h t
-follow_same (Leaf w a) s level go go' h = refl
+follow_same (Err why) s level go go' h = refl
+follow_same (Ok (Table t)) s level go go' h = h t
+follow_same (Ok (Leaf l)) s level go go' h = refl
 
 module _ (f : Format) (o : Sound f) (ram ram' : List ℕ) (same : Same f ram ram') where
   met_same : (s a : ℕ) → f.bytes ∣ a → plain_met (met_at f ram s a) ≡ plain_met (met_at f ram' s a)
@@ -119,7 +119,7 @@ module _ (f : Format) (o : Sound f) (ram ram' : List ℕ) (same : Same f ram ram
   seek_same va offset (w ∷ ws) level t =
       let s = offset + total ws in
       push_follow (met_at f ram s (entry_at f va t s w)) s level _
-      ∙ ap (λ (m : Met). follow m s level (λ (n : ℕ). plain_descent (seek f ram va offset ws (level + 1) n))) (met_same s (entry_at f va t s w) (entry_aligned f o va t s w))
+      ∙ ap (λ (m : Result Met Reason). follow m s level (λ (n : ℕ). plain_descent (seek f ram va offset ws (level + 1) n))) (met_same s (entry_at f va t s w) (entry_aligned f o va t s w))
       ∙ follow_same (plain_met (met_at f ram' s (entry_at f va t s w))) s level _ _ (seek_same va offset ws (level + 1))
       ∙ sym (push_follow (met_at f ram' s (entry_at f va t s w)) s level _)
 

@@ -5,4 +5,4 @@ use Rattle.writer.proofs.Wrotes.{then, within}
 use Rattle.answer_text.proofs.put_fault.Goals as goal
 
 pub returns : goal.returns
-returns c = within (grind (arith, three)) (then c.hex.ensures (then c.told.ensures c.bytes.ensures))
+returns c = rw (← c.from.ensures) (within (grind (arith, three)) (then c.hex.ensures (then c.told.ensures c.bytes.ensures)))

@@ -6,5 +6,6 @@ use Rattle.answer_text.proofs.put_ok.Goals as goal
 
 pub returns : goal.returns
 returns c =
-    within (grind (arith, three))
-    (then c.hex.ensures (then c.bytes.ensures (then c.hex-2.ensures (then c.told.ensures c.bytes-2.ensures))))
+    rw (← c.from.ensures)
+    (within (grind (arith, three))
+    (then c.hex.ensures (then c.bytes.ensures (then c.hex-2.ensures (then c.told.ensures c.bytes-2.ensures)))))

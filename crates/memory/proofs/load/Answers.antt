@@ -11,10 +11,10 @@ pub returns-then-not-is_readable : goal.returns-then-not-is_readable
 returns-then-not-is_readable c = word_none _ _ _ _ (sym c.is_readable.ensures ∙ c.if-not-is_readable.true)
 
 pub overflow_add-word : goal.overflow_add-word
-overflow_add-word c = let h = inside c in search rules
+overflow_add-word c = let h = inside (goal.at.overflow_add-word c).Else-not-is_readable in search rules
 
 pub slice_bounds-word-end : goal.slice_bounds-word-end
-slice_bounds-word-end c = let h = inside c in search rules
+slice_bounds-word-end c = let h = inside (goal.at.slice_bounds-word-end c).Else-not-is_readable in search rules
 
 pub returns : goal.returns
 returns c =

@@ -15,10 +15,10 @@ returns-then-not-is_readable c =
     (sym e, not_stored _ _ _ _ _ e)
 
 pub overflow_add-b-items : goal.overflow_add-b-items
-overflow_add-b-items c = let h = inside c in search rules
+overflow_add-b-items c = let h = inside (goal.at.overflow_add-b-items c).Else-not-is_readable in search rules
 
 pub slice_bounds-b-items-end : goal.slice_bounds-b-items-end
-slice_bounds-b-items-end c = let h = inside c in search rules
+slice_bounds-b-items-end c = let h = inside (goal.at.slice_bounds-b-items-end c).Else-not-is_readable in search rules
 
 pub loop-b-init : goal.loop-b-init
 loop-b-init c =
@@ -26,7 +26,7 @@ loop-b-init c =
     let same : a.a + a.n - a.a ≡ a.n = omega arith in
     let all : a.n - 0 ≡ a.n = omega arith in
     let first : a.a + 0 ≡ a.a = omega arith in
-    rw (same, all, first, put_same a.a a.n a.ram.now)
+    rw (c.from.ensures, same, all, first, put_same a.a a.n a.ram.now)
 
 pub loop-b-preserved : goal.loop-b-preserved
 loop-b-preserved c =
@@ -45,4 +45,4 @@ returns c =
     let h = inside (goal.at.returns c).Else-not-is_readable in
     let same : a.a + a.n - a.a ≡ a.n = omega arith in
     let none : a.n - l.b-index ≡ 0 = omega (arith, length_word a.n a.a a.ram.now h) in
-    (sym e, rw same (rw none at l.invariant) ∙ stored _ _ _ _ _ e)
+    (sym e, rw (c.from.ensures, same) (rw none at l.invariant) ∙ stored _ _ _ _ _ e)

@@ -27,15 +27,15 @@ same c v =
     let k = ap (λ (x : LeafMasks). x.masks) (masks_of s _ (sym c.in-Ok.ensures)).1 in
     rw (c.from-levels.ensures, k, back) at c.eq-same.ensures ∙ alike_is _ _
 
-pub returns-then-t-levels : goal.returns-then-t-levels
+pub returns-then-m-levels : goal.returns-then-m-levels
 unfolding fit_of
-returns-then-t-levels c =
-    let v = valid_now (goal.at.returns-then-t-levels c).In-Ok in
-    let e = same (goal.at.returns-then-t-levels c).After-eq-same v in
+returns-then-m-levels c =
+    let v = valid_now (goal.at.returns-then-m-levels c).In-Ok in
+    let e = same (goal.at.returns-then-m-levels c).After-eq-same v in
     search rules
 
-pub returns-else-t-levels : goal.returns-else-t-levels
+pub returns-else-m-levels : goal.returns-else-m-levels
 unfolding fit_of
-returns-else-t-levels c =
-    let v = valid_now (goal.at.returns-else-t-levels c).In-Ok in
+returns-else-m-levels c =
+    let v = valid_now (goal.at.returns-else-m-levels c).In-Ok in
     search rules

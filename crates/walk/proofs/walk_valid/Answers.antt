@@ -40,6 +40,6 @@ returns-in-Ok c =
     let a = c.args in
     let l = c.in-Ok.leaf in
     let e = said (judged (goal.at.returns-in-Ok c).After-judge-verdict) c.in-Ok.is in (
-      rw (e, c.page.ensures ∙ ap (λ (f : Format). result_of f a.access.vaddr l) c.format-f.ensures),
+      rw (e, c.page.ensures ∙ ap (λ (f : Format). result_of f a.access.vaddr l) c.format-f.ensures, c.from-words.ensures),
       rw e (c.mark.ensures ∙ ap (λ (f : Format). mark_in f a.access.kind a.ram.now l.at l.raw) c.format-f.ensures),
     )

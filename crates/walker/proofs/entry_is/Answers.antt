@@ -1,7 +1,9 @@
 -- `entry_is`: its tests in their order are those of `entry_is`.
+use Rattle.std.specs.Prelude.{Ok}
 use mathlib.Core.Path.{◌≡◌, ◌∙◌, ap}
 use mathlib.Core.Bool.{false, not}
 use Rattle.pte.specs.Entry.{valid_bit, perms_of, reserved, high_bits}
+use Prim.Native.Nat.{ℕ}
 use Rattle.walker.specs.declared.Met.TheVariants.{Table}
 use Rattle.walker.proofs.Cases.{said, invalid, write_only, high_bits_lem, is_leaf_lem, is_table}
 use Rattle.walker.proofs.entry_is.Goals.{Else-high, Else-is_reserved, Else-not-valid}
@@ -33,4 +35,4 @@ returns-then-is_leaf c =
 
 pub returns : goal.returns
 returns c =
-    ap Table c.ppn.ensures ∙ is_table _ _ _ (valid_said (goal.at.returns c).Else-not-valid) (reserved_said (goal.at.returns c).Else-is_reserved) (high_said (goal.at.returns c).Else-high) (said c.is_leaf.ensures c.if-is_leaf.false)
+    ap (λ (n : ℕ). Ok (Table n)) c.ppn.ensures ∙ is_table _ _ _ (valid_said (goal.at.returns c).Else-not-valid) (reserved_said (goal.at.returns c).Else-is_reserved) (high_said (goal.at.returns c).Else-high) (said c.is_leaf.ensures c.if-is_leaf.false)

@@ -1,4 +1,5 @@
 -- `go_down`: after each level what is left to seek is what was asked for.
+use Rattle.std.specs.Prelude.{Ok, Result}
 use Prim.Native.Nat.{ℕ, ◌+◌, ◌-◌, ◌≤◌}
 use mathlib.Core.Path.{◌≡◌, refl, sym, ap, ◌∙◌}
 use mathlib.Core.Bool.{true}
@@ -10,9 +11,10 @@ use Rattle.scheme.specs.Scheme.{total, ok_widths, widths_of}
 use Rattle.scheme.proofs.Widths.{Valid, valid, ok_high, ok_rest, rest_cons, rest_end, total_cons, total_end}
 use Rattle.walker.specs.Descent.{seek, follow, entry_at, met_at}
 use Rattle.walker.specs.declared.Met.{Met}
+use Rattle.walker.specs.declared.Reason.{Reason}
 use Rattle.walker.specs.declared.Descent.{Descent}
 use Rattle.walker.proofs.Down.{seek_cons, seek_none}
-use Rattle.walker.proofs.go_down.Goals.{In-loop-level, Start, in-Bad, in-Leaf}
+use Rattle.walker.proofs.go_down.Goals.{In-loop-level, Start, in-Err, in-Ok-Leaf}
 use Rattle.walker.proofs.go_down.Goals as goal
 
 -- what validity gives, and that the array holds every used width
@@ -42,14 +44,14 @@ abbrev walk_from : (c : In-loop-level) → List ℕ → ℕ → ℕ → Descent
 walk_from c = seek c.args.f c.args.ram.now c.args.vaddr c.args.scheme.offset_bits
 
 -- where the walk ends, if m is what the turn meets
-abbrev ends : (c : In-loop-level) → Met → Descent
+abbrev ends : (c : In-loop-level) → Result Met Reason → Descent
 ends c m = follow m (c.loop-level.shift - (width c)) c.loop-level.level ((walk_from c) (below c) (c.loop-level.level + 1))
 
 next_shift : (c : In-loop-level) → c.loop-level.shift - (width c) ≡ c.args.scheme.offset_bits + total (below c)
 next_shift c = omega (arith, (shift_is c))
 
 -- what is left to seek at the start of a turn is what follows what the turn meets
-turn : (c : In-loop-level) (at : ℕ) (m : Met) → at ≡ entry_at c.args.f c.args.vaddr c.loop-level.table (c.loop-level.shift - width c) (width c)
+turn : (c : In-loop-level) (at : ℕ) (m : Result Met Reason) → at ≡ entry_at c.args.f c.args.vaddr c.loop-level.table (c.loop-level.shift - width c) (width c)
     → m ≡ met_at c.args.f c.args.ram.now (c.loop-level.shift - width c) at
     → walk_from c (widths_of c.args.scheme) 0 c.args.root ≡ ends c m
 turn c at m e g =
@@ -80,8 +82,8 @@ returns-in-loop-level c =
     let l = (goal.at.returns-in-loop-level c).In-loop-level in
     let e = turn l _ _ c.entry_at.ensures c.met_at-met.ensures in
     elim c.match-met.branch [
-      | in-Bad w ↦ rw w.end-is (sym (e ∙ ap (ends l) w.in-Bad.is))
-      | in-Leaf w ↦ rw w.end-is (sym (e ∙ ap (ends l) w.in-Leaf.is))
+      | in-Err w ↦ rw w.end-is (sym (e ∙ ap (ends l) w.in-Err.is))
+      | in-Ok-Leaf w ↦ rw w.end-is (sym (e ∙ ap (ends l) (w.in-Ok-Leaf.is ∙ ap Ok (rw w.in-Ok-Leaf.is at w.in-Ok-Leaf.field-0-is))))
     ]
 
 pub loop-level-preserved : goal.loop-level-preserved
@@ -90,7 +92,7 @@ loop-level-preserved c = (
   omega (arith, shift_is (goal.at.loop-level-preserved c).In-loop-level),
   next_shift (goal.at.loop-level-preserved c).In-loop-level,
   ok_rest _ _ (ok (goal.at.loop-level-preserved c).In-loop-level),
-  sym (turn (goal.at.loop-level-preserved c).In-loop-level _ _ c.entry_at.ensures c.met_at-met.ensures ∙ ap (ends (goal.at.loop-level-preserved c).In-loop-level) c.in-Table.is),
+  sym (turn (goal.at.loop-level-preserved c).In-loop-level _ _ c.entry_at.ensures c.met_at-met.ensures ∙ ap (ends (goal.at.loop-level-preserved c).In-loop-level) (c.in-Ok-Table.is ∙ ap Ok (rw c.in-Ok-Table.is at c.in-Ok-Table.field-0-is))),
 )
 
 pub overflow_sub-last : goal.overflow_sub-last
