@@ -3,13 +3,12 @@
 #![tactic(auto)]
 
 use script::Step;
-use std::io;
 
 mod fields;
 mod schemes;
 mod words;
 
-fn perform(rt: &impl Print, ram: &mut [u8], s: Step) -> io::Result<()> {
+fn perform(rt: &impl Print, ram: &mut [u8], s: Step) {
     match s.op {
         b'b' => fields::masks(rt, script::low(s.a), s.b, s.c),
         b'e' => fields::entry(rt, s.a, s.wide),
@@ -23,8 +22,7 @@ fn perform(rt: &impl Print, ram: &mut [u8], s: Step) -> io::Result<()> {
     }
 }
 
-// A failed write ends the run and is not reported.
 fn main(rt: HostRuntime) {
     let mut ram = [0u8; 4096];
-    let _ = script::run(&rt, |s| perform(&rt, &mut ram, s));
+    script::run(&rt, |s| perform(&rt, &mut ram, s));
 }

@@ -7,8 +7,7 @@
 use bundle::MapBody;
 use scheme::PagingScheme;
 use script::Step;
-use show::Hex;
-use std::io;
+use show::{Hex, say};
 
 // What maps are installed under: the scheme, the kind, flags and MiB of the map as the trace bundle has them, and what each byte of RAM is
 // before.
@@ -43,18 +42,18 @@ fn body(t: &Setting, s: Step) -> MapBody {
 
 // Installs a map into 11000h bytes. Of what is left it prints the root's first word, the one at f000, where a root at 10000 has its first
 // child, and the digest of all.
-fn install(rt: &impl Print, t: &Setting, s: Step) -> io::Result<()> {
+fn install(rt: &impl Print, t: &Setting, s: Step) {
     let mut ram = [t.fill; 69632];
     let b = body(t, s);
     let said = installer::install_map_scheme(&mut ram, b.root, t.scheme, b.spec, b.window);
-    tell::said(rt, said)?;
-    tell::word(rt, &ram, s.a, false)?;
-    tell::word(rt, &ram, 0xf000, false)?;
-    println!(rt; " {}", Hex(u64::from(digest(&ram))))
+    tell::said(rt, said);
+    tell::word(rt, &ram, s.a, false);
+    tell::word(rt, &ram, 0xf000, false);
+    say!(rt; " {}\n", Hex(u64::from(digest(&ram))));
 }
 
 // Does what a line asks for.
-fn perform(rt: &impl Print, t: &mut Setting, s: Step) -> io::Result<()> {
+fn perform(rt: &impl Print, t: &mut Setting, s: Step) {
     match s.op {
         b'p' => t.scheme = tell::scheme_of(s.a, s.b, s.c),
         b'k' => {
@@ -63,13 +62,11 @@ fn perform(rt: &impl Print, t: &mut Setting, s: Step) -> io::Result<()> {
             t.mib = s.c;
         }
         b'z' => t.fill = (s.a % 256) as u8,
-        b'i' => install(rt, t, s)?,
-        _ => script::bad_line(rt)?,
+        b'i' => install(rt, t, s),
+        _ => script::bad_line(rt),
     }
-    Ok(())
 }
 
-// A failed write ends the run and is not reported.
 fn main(rt: HostRuntime) {
     let mut t = Setting {
         scheme: PagingScheme::sv32(),
@@ -78,5 +75,5 @@ fn main(rt: HostRuntime) {
         mib: 0,
         fill: 0,
     };
-    let _ = script::run(&rt, |s| perform(&rt, &mut t, s));
+    script::run(&rt, |s| perform(&rt, &mut t, s));
 }

@@ -4,9 +4,8 @@
 use access::{Answer, Denied, Place};
 use entry::TlbConfig;
 use mmu::Kept;
-use show::{Hex, YesNo};
+use show::{Hex, YesNo, say};
 use state::Mmu;
-use std::io;
 use walk::Access;
 
 // A configuration with a hit latency of 1 and a miss penalty of 20, its policy by the trace bundle's number.
@@ -21,43 +20,43 @@ pub fn config(entries: u64, ways: u64, policy: u64) -> TlbConfig {
 }
 
 // The state that a call hands back, and whether it was granted.
-pub fn kept(rt: &impl Print, k: Kept) -> io::Result<Mmu> {
-    tell::said(rt, k.said)?;
-    println!(rt)?;
-    Ok(k.mmu)
+pub fn kept(rt: &impl Print, k: Kept) -> Mmu {
+    tell::said(rt, k.said);
+    say!(rt; "\n");
+    k.mmu
 }
 
-fn outcome(rt: &impl Print, q: Access, o: Result<Place, Denied>) -> io::Result<()> {
+fn outcome(rt: &impl Print, q: Access, o: Result<Place, Denied>) {
     match o {
         Ok(p) => {
-            tell::who(rt, q, q.vaddr)?;
-            print!(rt; " ok {} {}", Hex(p.paddr), p.stall)
+            tell::who(rt, q, q.vaddr);
+            say!(rt; " ok {} {}", Hex(p.paddr), p.stall);
         }
         Err(Denied::Fault(f)) => tell::fault(rt, q, f),
         Err(Denied::Refused(r)) => {
-            tell::who(rt, q, q.vaddr)?;
-            tell::refused(rt, r)
+            tell::who(rt, q, q.vaddr);
+            tell::refused(rt, r);
         }
     }
 }
 
 // What an access is answered: who asks, the answer, and the words that a walk asked for.
-pub fn answered(rt: &impl Print, q: Access, said: Answer) -> io::Result<()> {
-    outcome(rt, q, said.outcome)?;
-    println!(rt; " words {}", said.words)
+pub fn answered(rt: &impl Print, q: Access, said: Answer) {
+    outcome(rt, q, said.outcome);
+    say!(rt; " words {}\n", said.words);
 }
 
-pub fn access(rt: &impl Print, m: Mmu, ram: &mut [u8], q: Access) -> io::Result<Mmu> {
+pub fn access(rt: &impl Print, m: Mmu, ram: &mut [u8], q: Access) -> Mmu {
     let s = mmu::translate(m, q, ram);
-    answered(rt, q, s.said)?;
-    Ok(s.mmu)
+    answered(rt, q, s.said);
+    s.mmu
 }
 
 // Valid, VPN, PPN, ASID, class, age, dirty and reference bit.
-pub fn slot(rt: &impl Print, m: &Mmu, at: u64) -> io::Result<()> {
+pub fn slot(rt: &impl Print, m: &Mmu, at: u64) {
     let e = m.tlb.entries[(at % 128) as usize];
-    println!(rt;
-        "  slot {} {} {} {} {} {} {} {}",
+    say!(rt;
+        "  slot {} {} {} {} {} {} {} {}\n",
         YesNo(e.valid),
         Hex(e.vpn),
         Hex(e.ppn),
@@ -66,13 +65,13 @@ pub fn slot(rt: &impl Print, m: &Mmu, at: u64) -> io::Result<()> {
         Hex(u64::from(e.age)),
         YesNo(e.dirty),
         YesNo(e.ref_bit)
-    )
+    );
 }
 
-pub fn tallies(rt: &impl Print, m: &Mmu) -> io::Result<()> {
+pub fn tallies(rt: &impl Print, m: &Mmu) {
     let s = m.tlb.stats;
-    println!(rt;
-        "  hits {} misses {} faults {} evictions {}",
+    say!(rt;
+        "  hits {} misses {} faults {} evictions {}\n",
         s.hits, s.misses, s.page_faults, s.evictions
-    )
+    );
 }

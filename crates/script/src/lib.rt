@@ -3,7 +3,7 @@
 // nine bytes, after a capital letter eighteen: such a line is of a 64-bit board.
 #![tactic(auto)]
 
-use std::io;
+use show::say;
 use std::io::Read;
 
 const LINE: usize = 80;
@@ -56,39 +56,40 @@ fn step_of(line: &[u8; LINE]) -> Option<Step> {
 }
 
 // What is printed for a line that asks for nothing that the program knows.
-pub fn bad_line(rt: &impl Print) -> io::Result<()> {
-    rt.println("bad line")
+pub fn bad_line(rt: &impl Print) {
+    say!(rt; "bad line\n");
 }
 
 // What a line asks for, if that is for the program to do. A title is printed here without the blanks behind it; what is printed next goes on in
 // the same line.
-fn asked(rt: &impl Print, line: &[u8; LINE]) -> io::Result<Option<Step>> {
+fn asked(rt: &impl Print, line: &[u8; LINE]) -> Option<Step> {
     match line[0] {
-        b'#' => Ok(None),
+        b'#' => None,
         b't' => {
             let text = &line[2..LINE - 1];
             let end = text
                 .iter()
                 .rposition(|b| *b != b' ')
                 .map_or(0, |last| last + 1);
-            rt.write_all(&text[..end])?;
-            Ok(None)
+            // As in `say!`, of bytes that need not be text.
+            let _ = rt.write_all(&text[..end]);
+            None
         }
         _ => {
             let step = step_of(line);
             if step.is_none() {
-                bad_line(rt)?;
+                bad_line(rt);
             }
-            Ok(step)
+            step
         }
     }
 }
 
 // Hands the script's steps to `perform`, one after another.
-pub fn run<R, F>(rt: &R, mut perform: F) -> io::Result<()>
+pub fn run<R, F>(rt: &R, mut perform: F)
 where
     R: Input + Print,
-    F: FnMut(Step) -> io::Result<()>,
+    F: FnMut(Step),
     requires { F.IsAlwaysCallable perform }
 {
     let mut input = rt.reader();
@@ -98,16 +99,15 @@ where
         if input.read_exact(&mut line).is_err() {
             break;
         }
-        let Some(step) = asked(rt, &line)? else {
+        let Some(step) = asked(rt, &line) else {
             continue;
         };
         // A letter of 0 ends a script as the end of the input does.
         if step.op == 0 {
             break;
         }
-        perform(step)?;
+        perform(step);
     }
-    Ok(())
 }
 
 // The low half of a number, for what is 32 bits wide.

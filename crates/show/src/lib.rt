@@ -1,7 +1,15 @@
-// How the test programs print what std has no format for.
+// How the test programs print, and what std has no format for.
 #![tactic(auto)]
 
 use std::fmt;
+
+// Prints a format. A failed write is dropped, and the script goes on: a later line may still be printed, and there is nobody to tell.
+#[macro_export]
+macro_rules! say {
+    ($rt:expr; $($text:tt)+) => {{
+        let _ = print!($rt; $($text)+);
+    }};
+}
 
 // Eight hexadecimal digits, or sixteen where eight do not hold the number.
 #[derive(Clone, Copy)]

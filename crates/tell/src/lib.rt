@@ -3,8 +3,7 @@
 
 use bundle::Code;
 use scheme::{PagingScheme, Refusal};
-use show::Hex;
-use std::io;
+use show::{Hex, say};
 use walk::{Access, Fault, PageFault, WalkAnswer, WalkResult};
 
 // A word of four bytes, or of a 64-bit board's eight. `wide` is one bit of a script's line, and one `if` at each use.
@@ -44,77 +43,70 @@ pub fn asked(vaddr: u64, kind: u64, mode: u64) -> Access {
 }
 
 // Who asks, and the address that the answer names: the one asked for, or a fault's own.
-pub fn who(rt: &impl Print, q: Access, vaddr: u64) -> io::Result<()> {
-    print!(rt; " {} {} {}", Hex(vaddr), q.kind, q.mode)
+pub fn who(rt: &impl Print, q: Access, vaddr: u64) {
+    say!(rt; " {} {} {}", Hex(vaddr), q.kind, q.mode);
 }
 
-pub fn fault(rt: &impl Print, q: Access, f: PageFault) -> io::Result<()> {
-    who(rt, q, f.vaddr)?;
-    print!(rt; " fault {}", f.cause)
+pub fn fault(rt: &impl Print, q: Access, f: PageFault) {
+    who(rt, q, f.vaddr);
+    say!(rt; " fault {}", f.cause);
 }
 
-pub fn refused(rt: &impl Print, r: Refusal) -> io::Result<()> {
-    print!(rt; " refused {}", r.number())
+pub fn refused(rt: &impl Print, r: Refusal) {
+    say!(rt; " refused {}", r.number());
 }
 
 // Whether a call was granted.
-pub fn said(rt: &impl Print, s: Result<(), Refusal>) -> io::Result<()> {
+pub fn said(rt: &impl Print, s: Result<(), Refusal>) {
     match s {
-        Ok(()) => print!(rt; " granted"),
+        Ok(()) => say!(rt; " granted"),
         Err(r) => refused(rt, r),
     }
 }
 
 // The reason of a fault and its level, by the descent and the judgement alone.
-fn verdict(
-    rt: &impl Print,
-    ram: &[u8],
-    s: PagingScheme,
-    root: u64,
-    access: Access,
-) -> io::Result<()> {
+fn verdict(rt: &impl Print, ram: &[u8], s: PagingScheme, root: u64, access: Access) {
     let Ok(d) = walker::find(ram, root, s, access.vaddr) else {
-        return Ok(());
+        return;
     };
-    match walk::judge(d, access) {
-        Ok(_) => Ok(()),
-        Err(Fault { why, level }) => print!(rt; " {why} at {level}"),
+    if let Err(Fault { why, level }) = walk::judge(d, access) {
+        say!(rt; " {why} at {level}");
     }
 }
 
-fn told(rt: &impl Print, q: Access, answer: Result<WalkResult, PageFault>) -> io::Result<()> {
+fn told(rt: &impl Print, q: Access, answer: Result<WalkResult, PageFault>) {
     match answer {
         Ok(r) => {
-            who(rt, q, q.vaddr)?;
-            print!(rt; " ok {} {} {}", Hex(r.paddr), r.page_bits, r.leaf_level)
+            who(rt, q, q.vaddr);
+            say!(rt; " ok {} {} {}", Hex(r.paddr), r.page_bits, r.leaf_level);
         }
         Err(f) => fault(rt, q, f),
     }
 }
 
-fn replied(rt: &impl Print, q: Access, reply: Result<WalkAnswer, Refusal>) -> io::Result<()> {
+fn replied(rt: &impl Print, q: Access, reply: Result<WalkAnswer, Refusal>) {
     match reply {
         Ok(w) => {
-            told(rt, q, w.answer)?;
-            print!(rt; " words {}", w.words)
+            told(rt, q, w.answer);
+            say!(rt; " words {}", w.words);
         }
         Err(r) => {
-            who(rt, q, q.vaddr)?;
-            refused(rt, r)
+            who(rt, q, q.vaddr);
+            refused(rt, r);
         }
     }
 }
 
 // The word at an address, or a dash.
-pub fn word(rt: &impl Print, ram: &[u8], at: u64, wide: bool) -> io::Result<()> {
+pub fn word(rt: &impl Print, ram: &[u8], at: u64, wide: bool) {
     let read = if wide {
         memory::load(ram, at, 8, 56)
     } else {
         memory::load(ram, at, 4, 32)
     };
     match read {
-        Some(x) => print!(rt; " {}", Hex(x)),
-        None => print!(rt; " -"),
+        Some(x) => say!(rt; " {}", Hex(x)),
+        None => say!(rt; " -"),
     }
 }
 
@@ -127,9 +119,9 @@ pub fn walked(
     access: Access,
     leaf: u64,
     wide: bool,
-) -> io::Result<()> {
-    replied(rt, access, walk::walk(s, root, ram, access))?;
-    word(rt, ram, leaf, wide)?;
-    verdict(rt, ram, s, root, access)?;
-    println!(rt)
+) {
+    replied(rt, access, walk::walk(s, root, ram, access));
+    word(rt, ram, leaf, wide);
+    verdict(rt, ram, s, root, access);
+    say!(rt; "\n");
 }
