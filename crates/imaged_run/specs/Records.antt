@@ -5,7 +5,8 @@ use Rattle.run.specs.declared.TooShort.{TooShort}
 use Rattle.scheme.specs.declared.refusal.Refusal.{Refusal}
 use Rattle.scheme.specs.Scheme.{bought_of}
 use Rattle.scheme.specs.declared.refusal.Refusal.TheVariants.{BadScheme, Unfit}
-use Rattle.state.specs.State.{fit_of}
+use Rattle.entry.specs.Geometry.{default_config}
+use Rattle.state.specs.State.{fit_of, state_new}
 use Rattle.state.specs.declared.Mmu.{Mmu}
 use Rattle.session.specs.Session.{end_mmu, end_ram}
 use Rattle.session.specs.declared.Event.{Event}
@@ -38,6 +39,10 @@ opened_of image records = fitting (laid_out (records_given records) (state_read 
 
 abbrev pub opened_said : List ℕ → List ℕ → Result ⊤ Refusal
 opened_said image records = result_and (opened_of image records) (Ok tt)
+
+-- the state that an image holds, and the state of a new MMU with the default configuration where the bytes are no image
+abbrev pub image_state : List ℕ → Mmu
+image_state image = on_state (state_read image) (λ m. m) (state_new default_config)
 
 abbrev pub events_of : List ℕ → List Event
 events_of records = events_from records 0 (length records / 8)

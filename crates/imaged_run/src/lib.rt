@@ -2,15 +2,17 @@
 #![tactic(auto)]
 
 ghost use Rattle.std.specs.Prelude.{◌≡◌, cond, ◌+◌, ◌*◌, ◌≤◌, ◌/◌, ltb, length, Err, Ok};
+ghost use Rattle.std.specs.Result.{result_and};
 ghost use Rattle.session.specs.Session.{end_mmu, end_ram};
 ghost use Rattle.text.specs.Lines.{refused_line};
 ghost use Rattle.steps.specs.Steps.{text_from};
 ghost use Rattle.run.specs.Run.{ran_buffer};
 ghost use Rattle.image.specs.Image.{put_state};
 ghost use Rattle.imaged.specs.Imaged.{said_number};
-ghost use Rattle.imaged_run.specs.Records.{records_given, fit_said, opened_of, opened_said, events_of, records_text, records_ram, records_image, records_short, records_ran};
+ghost use Rattle.imaged_run.specs.Records.{records_given, fit_said, opened_of, opened_said, image_state, events_of, records_text, records_ram, records_image, records_short, records_ran};
 
 use fold::{ByValue, Server};
+use mmu::Kept;
 use run::TooShort;
 use scheme::Refusal;
 use state::Mmu;
@@ -37,17 +39,24 @@ fn fit_said(m: Mmu) -> Result<(), Refusal>
     Ok(())
 }
 
-// The image's state, or what a list of records on it is refused with.
-#[tactic(auto, unfolding(crate::specs::Records::opened_of, imaged::specs::Imaged::laid_out))]
-pub fn opened(image: &[u8], records: &[u8]) -> Result<Mmu, Refusal>
-    ensures { result ≡ opened_of image.now records.now }
+// What a list of records on an image is refused with, and the image's state, on a refusal too: the default one where the bytes are no image.
+#[tactic(auto, unfolding(crate::specs::Records::opened_of, imaged::specs::Imaged::laid_out, image_read::specs::Reading::state_read))]
+pub fn opened(image: &[u8], records: &[u8]) -> Kept
+    ensures said { result.said ≡ opened_said image.now records.now }
+    ensures state { result.mmu ≡ image_state image.now }
+    ensures found { opened_of image.now records.now ≡ result_and result.said (Ok result.mmu) }
 {
-    if !records_given(records) {
-        return Err(Refusal::BadLayout);
+    match image_read::state_in(image) {
+        Ok(m) => {
+            let said = if records_given(records) {
+                fit_said(m)
+            } else {
+                Err(Refusal::BadLayout)
+            };
+            Kept { said, mmu: m }
+        }
+        Err(why) => session::refused(why),
     }
-    let m = image_read::state_in(image)?;
-    fit_said(m)?;
-    Ok(m)
 }
 
 // A list of accesses and flushes on an image, for the state and the RAM alone, with each access served by one that is told.
@@ -56,9 +65,10 @@ pub fn run_events_by<S: Server>(image: &mut [u8], records: &[u8], ram: &mut [u8]
         × (image.new ≡ records_image image.old records.now ram.old)
         × (ram.new ≡ records_ram image.old records.now ram.old) }
 {
-    match opened(image, records) {
-        Ok(m) => {
-            let end = fold::run_by::<S>(records, records.len() / 8, m, ram);
+    let k = opened(image, records);
+    match k.said {
+        Ok(()) => {
+            let end = fold::run_by::<S>(records, records.len() / 8, k.mmu, ram);
             image::put_state(end, image);
             0
         }
@@ -126,8 +136,9 @@ pub fn run_records(
         × (ram.new ≡ cond (records_short image.old records.now (length out.old)) ram.old (records_ram image.old records.now ram.old))
         × (image.new ≡ cond (records_short image.old records.now (length out.old)) image.old (records_image image.old records.now ram.old)) }
 {
-    match opened(image, records) {
-        Ok(m) => run_granted(image, records, m, ram, out),
+    let k = opened(image, records);
+    match k.said {
+        Ok(()) => run_granted(image, records, k.mmu, ram, out),
         Err(why) => put_refusal(out, why),
     }
 }
