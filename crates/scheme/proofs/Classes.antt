@@ -9,9 +9,11 @@ use mathlib.Core.Logic.{⊎_elim}
 use mathlib.Core.List.{List, [], ◌∷◌, ◌++◌, append_assoc}
 use mathlib.Core.Bool.{true}
 use lib.ListN.{length, get_or, drop, set, length-append, get_or-append, length-drop, drop_of_length-le}
-use lib.Seq.{drop-cons, get_or_at, set-append_seam}
-use Rattle.scheme.specs.Scheme.{total, ok_widths, widths_of, bought_of, valid_of, shift_of, classes, sv32_scheme, padded}
-use Rattle.scheme.proofs.Widths.{ok_at}
+use lib.Seq.{drop-cons, get_or_at, set-append_seam, length-take-le}
+use Rattle.std.specs.Prelude.{Ok}
+use Rattle.scheme.specs.declared.PagingScheme.{PagingScheme}
+use Rattle.scheme.specs.Scheme.{total, ok_widths, widths_of, bought_of, valid_of, shift_of, classes, leaf_masks, sv32_scheme, padded}
+use Rattle.scheme.proofs.Widths.{Valid, ok_at, total_at}
 
 pub length_classes : (ws : List ℕ) → length (classes ws) ≡ length ws
 unfolding classes
@@ -53,13 +55,28 @@ module _ (ws : List ℕ) (i : ℕ) where
       let high = class_total ws (suc i) h ∙ ap total (drop-cons ws level 0 (omega arith)) in
       omega (arith, low, high, (ok_at ws level ok (omega arith)).0)
 
+-- no class of a valid scheme is above 19
+pub class_high : (s : PagingScheme) → length s.level_bits ≡ 4 → Valid s
+    → (i : ℕ) → i < s.levels → get_or (classes (widths_of s)) i 0 ≤ 19
+class_high s four v i h =
+    let ws = widths_of s in
+    let n : length ws ≡ s.levels = length-take-le s.levels s.level_bits (omega (arith, v.four)) in
+    let level = length ws - 1 - i in
+    let k : length ws - i ≡ suc level = omega arith in
+    let is = class_total ws i (omega arith) ∙ ap (λ (n : ℕ). total (drop n ws)) k in
+    omega (arith, is, total_at ws level, v.low level (omega arith), v.least, v.offset_low)
+
 -- Sv32's, worked out
 pub sv32_valid : valid_of sv32_scheme ≡ true
 unfolding valid_of bought_of ok_widths total
 sv32_valid = refl
 
-pub sv32_masks : padded (classes (widths_of sv32_scheme)) ≡ 0 ∷ 10 ∷ 0 ∷ 0 ∷ []
+pub sv32_classes : padded (classes (widths_of sv32_scheme)) ≡ 0 ∷ 10 ∷ 0 ∷ 0 ∷ []
 unfolding total classes
+sv32_classes = refl
+
+pub sv32_masks : leaf_masks sv32_scheme ≡ Ok (record { masks = 0 ∷ 10 ∷ 0 ∷ 0 ∷ []; count = 2 })
+unfolding leaf_masks valid_of bought_of ok_widths total classes
 sv32_masks = refl
 
 -- the array is filled from the last level up: its class goes behind those of the levels below

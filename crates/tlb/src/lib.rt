@@ -38,7 +38,7 @@ pub struct Probed {
 }
 
 // An empty TLB for a configuration, with Sv32's offset and page classes.
-#[tactic(auto, using(scheme::proofs::Classes::sv32_masks), unfolding(crate::specs::State::tlb_new))]
+#[tactic(auto, using(scheme::proofs::Classes::sv32_classes), unfolding(crate::specs::State::tlb_new))]
 pub fn new(config: entry::TlbConfig) -> Tlb
     requires { entries_for config.entry_count config.associativity ≤ 128 }
     ensures { result ≡ tlb_new config }
