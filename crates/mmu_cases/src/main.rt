@@ -3,9 +3,20 @@
 // answers; refusals and the words asked for are document 01's.
 #![tactic(auto)]
 
-use mmu_tell::{access, config, kept};
+use mmu::Kept;
 use script::Step;
 use state::Mmu;
+
+// A call that is granted or refused. Apart from `perform`, which pays for its locals at every line: a state has 4 KB.
+fn call(m: &Mmu, s: Step) -> Kept {
+    match s.op {
+        b'n' => mmu::new(mmu_tell::config(s.a, s.b, s.c)),
+        b'p' => mmu::set_scheme(*m, tell::scheme_of(s.a, s.b, s.c)),
+        b'r' => mmu::reconfigure(*m, mmu_tell::config(s.a, s.b, s.c)),
+        b'f' => mmu::flush(*m),
+        _ => mmu::flush_vaddr(*m, s.a),
+    }
+}
 
 // Does what a line asks for.
 fn perform(rt: &impl Print, m: &mut Mmu, ram: &mut [u8], s: Step) {
@@ -14,12 +25,8 @@ fn perform(rt: &impl Print, m: &mut Mmu, ram: &mut [u8], s: Step) {
         b'w' => tell::put(ram, s.a, s.b, s.wide),
         b'i' => mmu_tell::slot(rt, m, s.a),
         b'c' => mmu_tell::tallies(rt, m),
-        b'a' => *m = access(rt, *m, ram, tell::asked(s.a, s.b, s.c)),
-        b'n' => *m = kept(rt, mmu::new(config(s.a, s.b, s.c))),
-        b'p' => *m = kept(rt, mmu::set_scheme(*m, tell::scheme_of(s.a, s.b, s.c))),
-        b'r' => *m = kept(rt, mmu::reconfigure(*m, config(s.a, s.b, s.c))),
-        b'f' => *m = kept(rt, mmu::flush(*m)),
-        b'v' => *m = kept(rt, mmu::flush_vaddr(*m, s.a)),
+        b'a' => *m = mmu_tell::access(rt, *m, ram, tell::asked(s.a, s.b, s.c)),
+        b'n' | b'p' | b'r' | b'f' | b'v' => *m = mmu_tell::kept(rt, call(m, s)),
         b's' => m.satp.raw = s.a,
         b'e' => {
             m.enabled = s.a & 1 != 0;

@@ -1,6 +1,8 @@
 // What the test programs print of walks: who asks, where the descent and the judgement end, and the answer.
 #![tactic(auto)]
 
+ghost use Rattle.std.specs.Prelude.{◌≡◌, min};
+
 use bundle::Code;
 use scheme::{PagingScheme, Refusal};
 use show::{Hex, say};
@@ -29,7 +31,9 @@ pub fn scheme_of(offset_bits: u64, levels: u64, widths: u64) -> PagingScheme {
 }
 
 // A script's number as one of a bundle's; those that no byte holds stand for what 255 does.
-pub fn code(n: u64) -> Code {
+pub fn code(n: u64) -> Code
+    ensures { result.0 ≡ min n 255 }
+{
     Code(n.min(255) as u8)
 }
 
