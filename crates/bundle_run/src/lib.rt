@@ -54,6 +54,17 @@ fn run_mapped(file: &[u8], p: Parts, m: Mmu, ram: &mut [u8], out: &mut Out<'_>) 
     }
 }
 
+// One slice over another of its length.
+// Kept a loop: `copy_from_slice` calls C's memmove, which the static library would then need from a host beside memcpy and memset.
+fn copy(from: &[u8], to: &mut [u8])
+    requires { length from.now ≡ length to.old }
+    ensures { to.new ≡ from.now }
+{
+    for i in 0..from.len() {
+        to[i] = from[i];
+    }
+}
+
 // Copies the bundle's RAM to the start of the buffer, and runs on that part of it.
 fn run_from(file: &[u8], p: Parts, m: Mmu, ram: &mut [u8], out: &mut Out<'_>) -> Mmu
     requires { Within file.now p × HasRoom (25 * p.count + 113) out.old × (p.ram_len ≤ length ram.old) }
@@ -63,7 +74,7 @@ fn run_from(file: &[u8], p: Parts, m: Mmu, ram: &mut [u8], out: &mut Out<'_>) ->
 {
     let stop = p.ram_start + p.ram_len;
     let given = &mut ram[..p.ram_len];
-    given.copy_from_slice(&file[p.ram_start..stop]);
+    copy(&file[p.ram_start..stop], given);
     run_mapped(file, p, m, given, out)
 }
 
