@@ -46,17 +46,15 @@ pub fn opened(image: &[u8], records: &[u8]) -> Kept
     ensures state { result.mmu ≡ image_state image.now }
     ensures found { opened_of image.now records.now ≡ result_and result.said (Ok result.mmu) }
 {
-    match image_read::state_in(image) {
-        Ok(m) => {
-            let said = if records_given(records) {
-                fit_said(m)
-            } else {
-                Err(Refusal::BadLayout)
-            };
-            Kept { said, mmu: m }
-        }
-        Err(why) => session::refused(why),
-    }
+    let Ok(m) = image_read::state_in(image) else {
+        return session::refused(Refusal::BadLayout);
+    };
+    let said = if records_given(records) {
+        fit_said(m)
+    } else {
+        Err(Refusal::BadLayout)
+    };
+    Kept { said, mmu: m }
 }
 
 // A list of accesses and flushes on an image, for the state and the RAM alone, with each access served by one that is told.
