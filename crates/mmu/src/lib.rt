@@ -125,10 +125,9 @@ pub fn flush(m: Mmu) -> Kept
     if !state::fits(m) {
         return refused(Refusal::Unfit, m);
     }
-    granted(Mmu {
-        tlb: tlb_probe::flush(m.tlb),
-        ..m
-    })
+    let mut n = m;
+    n.tlb = tlb_probe::flush(m.tlb);
+    granted(n)
 }
 
 // Clears the valid marks of the entries that answer for an address, in any address space. Refusal 3.

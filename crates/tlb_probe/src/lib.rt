@@ -68,8 +68,9 @@ pub fn flush(t: Tlb) -> Tlb
     requires { Geo t }
     ensures { result ≡ tlb_flush t }
 {
-    let entries = slots::flush_slots(t.entries, 0, t.count, |_| true);
-    Tlb { entries, ..t }
+    let mut u = t;
+    u.entries = slots::flush_slots(t.entries, 0, t.count, |_| true);
+    u
 }
 
 // Every entry that answers for the page goes, in any address space, from the sets that a probe of it visits.

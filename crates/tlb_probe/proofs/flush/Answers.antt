@@ -6,4 +6,4 @@ use Rattle.tlb_probe.proofs.flush.Goals as goal
 
 pub returns : goal.returns
 unfolding tlb_flush flush_in
-returns c = rw (c.flush_slots-entries.ensures (λ e. true) (λ a b h. search rules), c.requires.full)
+returns c = rw (c.flush_slots-u.ensures (λ e. true) (λ a b h. search rules), c.requires.full)
