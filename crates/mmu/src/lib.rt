@@ -125,6 +125,7 @@ pub fn flush(m: Mmu) -> Kept
     if !state::fits(m) {
         return refused(Refusal::Unfit, m);
     }
+    // A field put into a copy: with struct update one more state of 4 KB is zeroed at each call.
     let mut n = m;
     n.tlb = tlb_probe::flush(m.tlb);
     granted(n)
