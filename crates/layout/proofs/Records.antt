@@ -1,9 +1,21 @@
--- The records at their numbers, as `all` tests them: p is the place of record k.
-use Rattle.std.proofs.Common.{◌≡◌, refl, ℕ, zero, suc, ◌+◌, ◌*◌, List, arith}
-use Rattle.std.specs.List.{list_all, range_with_len}
+-- The records passed, and those that are left.
+use Rattle.std.proofs.Common.{◌≡◌, refl, ℕ, zero, suc, ◌+◌, ◌-◌, ◌<◌, ◌≤◌, Bool, true, false, ◌&&◌, List, arith}
+use native.Mathlib.Nat.{not-suc-le-zero}
 use Rattle.layout.specs.Layout.{record_ok, records_ok}
 
-pub by_number : (s : List ℕ) (at k n p : ℕ) → p ≡ at + 8 * k → list_all (λ i. record_ok s (at + 8 * i)) (range_with_len k n) ≡ records_ok 8 s p n
-unfolding records_ok
-by_number s at k zero p e = refl
-by_number s at k (suc n) p e = rw (by_number s at (k + 1) n (p + 8) (omega arith), e)
+module _ (s : List ℕ) (p : ℕ) where
+  pub next_record : (left : ℕ) (ok : Bool) → 0 < left
+      → (ok && record_ok s p) && records_ok 8 s (p + 8) (left - 1) ≡ ok && records_ok 8 s p left
+  unfolding records_ok
+  next_record zero ok h = absurd (not-suc-le-zero h)
+  next_record (suc k) false h = refl
+  next_record (suc k) true h =
+      let e : suc k - 1 ≡ k = omega arith in
+      rw e
+
+  pub last_record : (left : ℕ) (ok : Bool) → left ≤ 0 → ok ≡ ok && records_ok 8 s p left
+  unfolding records_ok
+  last_record left false h = refl
+  last_record left true h =
+      let e : left ≡ 0 = omega arith in
+      rw e
