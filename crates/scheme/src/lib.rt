@@ -156,14 +156,16 @@ impl PagingScheme {
         &self.level_bits[..usize::from(self.levels).min(4)]
     }
 
-    // The offset plus the widths from `start` on. A part of the slice, since `skip` steps over the widths before it, and maps ask
-    // this of each entry.
+    // The offset plus the widths from `start` on.
     fn bits_from(self, start: usize) -> u32
         ensures { result ≡ self.offset_bits + total (drop start (widths_of self)) }
     {
-        let widths = self.widths();
-        let rest = &widths[start.min(widths.len())..];
-        u32::from(self.offset_bits) + rest.iter().map(|w| u32::from(*w)).sum::<u32>()
+        let mut sum = u32::from(self.offset_bits);
+        // By index: maps ask this of each entry, and `skip` steps over the widths before it.
+        for i in start..usize::from(self.levels).min(4) {
+            sum += u32::from(self.level_bits[i]);
+        }
+        sum
     }
 
     // The offset plus all widths, for any scheme: 32 or 39 where it is valid.

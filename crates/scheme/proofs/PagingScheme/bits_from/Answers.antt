@@ -1,43 +1,35 @@
--- `bits_from`: the chain yields the widths from the start on, and four bytes add up to less than a word.
+-- `bits_from`: a step takes the next width, and past the last none is left.
 use Prim.Native.Nat.{min}
-use Rattle.std.proofs.Common.{rules, arith, sym, ap, Iter, ◌∙◌, ◌≡◌, ◌≤◌, drop, get_or, length, ◌-◌, ℕ, List, Fits, w8}
+use Rattle.std.proofs.Common.{rules, arith, ◌≡◌, ◌≤◌, ◌+◌, ℕ, List, sym, drop, get_or, length, Fits, w8}
 use Rattle.std.proofs.Math.ListN.{take}
-use Rattle.std.proofs.lemmas.List.{drop_min, take_all, length-drop}
-use Rattle.std.proofs.lemmas.Iterator.{YieldsList-from_slice, YieldsList-from_map}
-use Rattle.std.proofs.lemmas.Iterator.Consumers.{sum_by_from_yields_List, fits_by_from_yields_list}
+use Rattle.std.proofs.lemmas.List.{take_min}
 use Rattle.scheme.specs.Scheme.{total, widths_of}
-use Rattle.scheme.proofs.Widths.{total_is, total_few}
-use Rattle.scheme.proofs.PagingScheme.bits_from.Goals.{After-widths-widths, After-sum}
+use Rattle.scheme.proofs.Widths.{total_cons, total_end}
 use Rattle.scheme.proofs.PagingScheme.bits_from.Goals as goal
 
--- four bytes, at most
-few : (c : After-widths-widths) → total (drop c.args.start (widths_of c.args.self)) ≤ 1020
-few c =
-    let byte = λ (i : ℕ). let b : Fits w8 (get_or c.args.self.level_bits i 0) = search rules in b.fits in
-    total_few _ _ _ (search rules) byte
+-- the used widths of four
+used : (l : List ℕ) (n levels k : ℕ) → length l ≡ 4 → k ≡ levels → n ≡ min k 4 → take n l ≡ take levels l
+used l n levels k four e f = rw (f, e, sym four) (take_min levels l)
 
--- a part that begins no later than at the end
-part : (n m : ℕ) (l ws r : List ℕ) → m ≡ min n (length l) → l ≡ ws → r ≡ take (length l - m) (drop m l) → r ≡ drop n ws
-part n m l ws r e f g =
-    g ∙ take_all (length l - m) (drop m l) (omega (arith, length-drop m l)) ∙ rw (e, f) (drop_min n ws)
-
-pub sum-requires-clause-fits : goal.sum-requires-clause-fits
-sum-requires-clause-fits c =
-    let rest = drop c.args.start (widths_of c.args.self) in
-    let on = part _ _ _ _ _ c.min.ensures c.widths-widths.ensures c.iter.ensures.rest in
-    fits_by_from_yields_list (λ w. w) rest c.map.result _ (YieldsList-from_map _ (λ w. w) (YieldsList-from_slice rest (ap (λ (i : Iter ℕ). i.rest.now) c.map.ensures.source ∙ on)) c.map.ensures.closure (λ x r q k. search rules))
-    (omega (arith, few (goal.at.sum-requires-clause-fits c).After-widths-widths, total_is rest))
-
--- what the chain adds up to
-added : (c : After-sum) → c.sum.result ≡ total (drop c.args.start (widths_of c.args.self))
-added c =
-    let rest = drop c.args.start (widths_of c.args.self) in
-    let on = part _ _ _ _ _ c.min.ensures c.widths-widths.ensures c.iter.ensures.rest in
-    sum_by_from_yields_List (λ w. w) rest c.map.result _ c.sum.ensures.ran (YieldsList-from_map _ (λ w. w) (YieldsList-from_slice rest (ap (λ (i : Iter ℕ). i.rest.now) c.map.ensures.source ∙ on)) c.map.ensures.closure (λ x r q k. search rules))
-    ∙ sym (total_is rest)
-
-pub overflow_add-result : goal.overflow_add-result
-overflow_add-result c = omega (arith, added c, few (goal.at.overflow_add-result c).After-widths-widths)
+pub loop-i-preserved : goal.loop-i-preserved
+loop-i-preserved c =
+    let l = c.args.self.level_bits in
+    let n = c.min-i-end.result in
+    let i = c.loop-i.i in
+    let four : length l ≡ 4 = search rules in
+    let whole : take n l ≡ widths_of c.args.self = used l n _ _ four c.from.ensures c.min-i-end.ensures in
+    let long : n ≤ length l = omega (arith, four, c.min-i-end.ensures) in
+    let step : total (drop i (widths_of c.args.self)) ≡ get_or l i 0 + total (drop (i + 1) (widths_of c.args.self)) = rw (sym whole) (total_cons l n long i c.loop-i-test.true) in
+    let byte : Fits w8 (get_or l i 0) = search rules in
+    (omega (arith, byte.fits, c.from-sum-in-loop-i.ensures, c.loop-i.invariant.0), omega (arith, step, c.from-sum-in-loop-i.ensures, c.loop-i.invariant.1))
 
 pub returns : goal.returns
-returns c = omega (arith, added c, c.from.ensures)
+returns c =
+    let l = c.args.self.level_bits in
+    let n = c.min-i-end.result in
+    let i = c.loop-i.i in
+    let four : length l ≡ 4 = search rules in
+    let whole : take n l ≡ widths_of c.args.self = used l n _ _ four c.from.ensures c.min-i-end.ensures in
+    let long : n ≤ length l = omega (arith, four, c.min-i-end.ensures) in
+    let none : total (drop i (widths_of c.args.self)) ≡ 0 = rw (sym whole) (total_end l n long i c.loop-i-test.false) in
+    omega (arith, none, c.loop-i.invariant.1)
