@@ -18,11 +18,11 @@ fn perform(rt: &impl Print, ram: &mut [u8], s: Step) {
         b's' => schemes::satp(rt, s.a, s.wide),
         b'k' => schemes::made(rt, s.a, (s.b % 65536) as u16, s.wide),
         b'd' => schemes::delta(rt, s.a, s.b),
-        _ => script::bad_line(rt),
+        _ => script::say_bad_line(rt),
     }
 }
 
 fn main(rt: HostRuntime) {
     let mut ram = [0u8; 4096];
-    script::run(&rt, |s| perform(&rt, &mut ram, s));
+    script::say_run(&rt, |s| perform(&rt, &mut ram, s));
 }

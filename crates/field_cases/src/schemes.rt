@@ -5,7 +5,7 @@ use show::{Hex, YesNo, say};
 fn answer(rt: &impl Print, a: Result<u64, Refusal>) {
     match a {
         Ok(n) => say!(rt; " {}", Hex(n)),
-        Err(r) => tell::refused(rt, r),
+        Err(r) => tell::say_refused(rt, r),
     }
 }
 
@@ -18,7 +18,7 @@ fn classes(rt: &impl Print, s: PagingScheme) {
                 say!(rt; " {mask}");
             }
         }
-        Err(r) => tell::refused(rt, r),
+        Err(r) => tell::say_refused(rt, r),
     }
     say!(rt; "\n");
 }

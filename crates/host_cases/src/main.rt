@@ -10,25 +10,25 @@ use state::Mmu;
 
 // The first slots, the tallies, how many entries there are, and the page offset's width.
 fn state(rt: &impl Print, m: &Mmu) {
-    mmu_tell::slot(rt, m, 0);
-    mmu_tell::slot(rt, m, 1);
-    mmu_tell::tallies(rt, m);
+    mmu_tell::say_slot(rt, m, 0);
+    mmu_tell::say_slot(rt, m, 1);
+    mmu_tell::say_tallies(rt, m);
     say!(rt; "  entries {} offset {}\n", m.tlb.count, m.scheme.offset_bits);
 }
 
 // What a call was answered, and the state that it left.
 fn call(rt: &impl Print, name: &str, k: Kept) {
     say!(rt; "{name}");
-    state(rt, &mmu_tell::kept(rt, k));
+    state(rt, &mmu_tell::say_kept(rt, k));
 }
 
 // Page 2 is in the TLB before the session, so that a flush of page 1 leaves something to the flush of all. A count that is not what the
 // configuration gives makes the state unfit.
 fn started(rt: &impl Print, ram: &mut [u8], count: u64) -> Mmu {
-    let mut m = mmu_tell::kept(rt, mmu::new(mmu_tell::config(4, 4, 0)));
+    let mut m = mmu_tell::say_kept(rt, mmu::new(mmu_tell::config(4, 4, 0)));
     m.satp.raw = 0x8000_0001;
     m.enabled = true;
-    let mut m = mmu_tell::access(rt, m, ram, tell::asked(0x2000, 1, 0));
+    let mut m = mmu_tell::say_access(rt, m, ram, tell::asked(0x2000, 1, 0));
     m.tlb.count = count as usize;
     m
 }
@@ -40,13 +40,13 @@ fn session(rt: &impl Print, ram: &mut [u8], s: Step) {
     let scheme = tell::scheme_of(s.d / 0x100, s.d, s.c);
     let m = started(rt, ram, s.a);
     let r = lending::run_session(m, q, 0x1fff, scheme, config, ram);
-    mmu_tell::answered(rt, q, r.translated.said);
+    mmu_tell::say_answered(rt, q, r.translated.said);
     state(rt, &r.translated.mmu);
     call(rt, "flush 1fff", r.dropped);
     call(rt, "flush", r.flushed);
     call(rt, "set_scheme", r.adopted);
     call(rt, "reconfigure", r.restarted);
-    tell::word(rt, ram, 0x2004, false);
+    tell::say_word(rt, ram, 0x2004, false);
     say!(rt; "\n");
 }
 
@@ -54,11 +54,11 @@ fn perform(rt: &impl Print, ram: &mut [u8], s: Step) {
     match s.op {
         b'w' => tell::put(ram, s.a, s.b, s.wide),
         b'h' => session(rt, ram, s),
-        _ => script::bad_line(rt),
+        _ => script::say_bad_line(rt),
     }
 }
 
 fn main(rt: HostRuntime) {
     let mut ram = [0u8; 65536];
-    script::run(&rt, |s| perform(&rt, &mut ram, s));
+    script::say_run(&rt, |s| perform(&rt, &mut ram, s));
 }

@@ -46,9 +46,9 @@ fn install(rt: &impl Print, t: &Setting, s: Step) {
     let mut ram = [t.fill; 69632];
     let b = body(t, s);
     let said = installer::install_map_scheme(&mut ram, b.root, t.scheme, b.spec, b.window);
-    tell::said(rt, said);
-    tell::word(rt, &ram, s.a, false);
-    tell::word(rt, &ram, 0xf000, false);
+    tell::say_said(rt, said);
+    tell::say_word(rt, &ram, s.a, false);
+    tell::say_word(rt, &ram, 0xf000, false);
     say!(rt; " {}\n", Hex(u64::from(digest(&ram))));
 }
 
@@ -63,7 +63,7 @@ fn perform(rt: &impl Print, t: &mut Setting, s: Step) {
         }
         b'z' => t.fill = (s.a % 256) as u8,
         b'i' => install(rt, t, s),
-        _ => script::bad_line(rt),
+        _ => script::say_bad_line(rt),
     }
 }
 
@@ -75,5 +75,5 @@ fn main(rt: HostRuntime) {
         mib: 0,
         fill: 0,
     };
-    script::run(&rt, |s| perform(&rt, &mut t, s));
+    script::say_run(&rt, |s| perform(&rt, &mut t, s));
 }

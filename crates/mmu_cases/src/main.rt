@@ -23,10 +23,10 @@ fn perform(rt: &impl Print, m: &mut Mmu, ram: &mut [u8], s: Step) {
     match s.op {
         b'z' => ram.fill(0),
         b'w' => tell::put(ram, s.a, s.b, s.wide),
-        b'i' => mmu_tell::slot(rt, m, s.a),
-        b'c' => mmu_tell::tallies(rt, m),
-        b'a' => *m = mmu_tell::access(rt, *m, ram, tell::asked(s.a, s.b, s.c)),
-        b'n' | b'p' | b'r' | b'f' | b'v' => *m = mmu_tell::kept(rt, call(m, s)),
+        b'i' => mmu_tell::say_slot(rt, m, s.a),
+        b'c' => mmu_tell::say_tallies(rt, m),
+        b'a' => *m = mmu_tell::say_access(rt, *m, ram, tell::asked(s.a, s.b, s.c)),
+        b'n' | b'p' | b'r' | b'f' | b'v' => *m = mmu_tell::say_kept(rt, call(m, s)),
         b's' => m.satp.raw = s.a,
         b'e' => {
             m.enabled = s.a & 1 != 0;
@@ -36,12 +36,12 @@ fn perform(rt: &impl Print, m: &mut Mmu, ram: &mut [u8], s: Step) {
         b'g' => m.tlb.age_counter = script::low(s.a),
         b'k' => m.tlb.entries[(s.b % 128) as usize].mask_bits = (s.a % 256) as u8,
         b'q' => m.tlb.count = s.a as usize,
-        _ => script::bad_line(rt),
+        _ => script::say_bad_line(rt),
     }
 }
 
 fn main(rt: HostRuntime) {
     let mut ram = [0u8; 65536];
     let mut m = mmu::new(entry::default_config()).mmu;
-    script::run(&rt, |s| perform(&rt, &mut m, &mut ram, s));
+    script::say_run(&rt, |s| perform(&rt, &mut m, &mut ram, s));
 }

@@ -19,7 +19,7 @@ fn walked(rt: &impl Print, t: &Setting, ram: &mut [u8], s: Step) {
         return;
     };
     let access = tell::asked(s.a, s.b, s.c);
-    tell::walked(rt, ram, t.scheme, t.root, access, s.d, s.wide);
+    tell::say_walked(rt, ram, t.scheme, t.root, access, s.d, s.wide);
 }
 
 // Does what a line asks for.
@@ -31,7 +31,7 @@ fn perform(rt: &impl Print, t: &mut Setting, ram: &mut [u8], s: Step) {
         b'p' => t.scheme = tell::scheme_of(s.a, s.b, s.c),
         b'r' => t.root = s.a,
         b'm' => t.size = s.a as usize,
-        _ => script::bad_line(rt),
+        _ => script::say_bad_line(rt),
     }
 }
 
@@ -42,5 +42,5 @@ fn main(rt: HostRuntime) {
         root: 0,
         size: 0,
     };
-    script::run(&rt, |s| perform(&rt, &mut t, &mut ram, s));
+    script::say_run(&rt, |s| perform(&rt, &mut t, &mut ram, s));
 }
