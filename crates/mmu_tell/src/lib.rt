@@ -87,6 +87,7 @@ pub fn tallies(rt: &impl Print, m: &Mmu) -> io::Result<()> {
     )
 }
 
+// From here on a failed write is dropped where it is made.
 pub fn say_kept(rt: &impl Print, k: Kept) -> Mmu {
     tell::say_said(rt, k.said);
     say!(rt; "\n");

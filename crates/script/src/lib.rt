@@ -118,6 +118,7 @@ pub fn low(n: u64) -> u32 {
     (n % 0x1_0000_0000) as u32
 }
 
+// From here on a failed write is dropped where it is made.
 pub fn say_bad_line(rt: &impl Print) {
     say!(rt; "bad line\n");
 }

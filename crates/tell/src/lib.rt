@@ -143,6 +143,7 @@ pub fn walked(
     println!(rt)
 }
 
+// From here on a failed write is dropped where it is made.
 pub fn say_who(rt: &impl Print, q: Access, vaddr: u64) {
     say!(rt; " {} {} {}", Hex(vaddr), q.kind, q.mode);
 }
